@@ -1,0 +1,7 @@
+pub mod Configs
+pub mod MemForms
+pub mod NameBytes
+pub mod Names
+pub mod Outside
+pub mod Plan
+pub mod Texts

@@ -1,0 +1,22 @@
+-- What files and sinks tell, and when they may fail.
+use Rattle.std.specs.Prelude.{ℕ, ◌≡◌, ◌<◌, ◌⊎◌, ◌+◌, nat_le, List, [], ◌∷◌, ◌++◌, take, if◌then◌else◌, Result, Ok, Err}
+use Rattle.cs_base.specs.declared.files.FileBad.{FileBad}
+use Rattle.cs_base.specs.declared.files.FileBad.TheVariants as bad
+
+-- a count of faults rose: it is greater than before, or stands at its last value
+abbrev pub Rose : ℕ → ℕ → Type 0
+Rose before after = (before < after) ⊎ (after ≡ 18446744073709551615)
+
+-- the names asked for after a read of one more: it is told unless memory was wanting
+abbrev pub asked_after : {T : Type 0} → Result T FileBad → List ℕ → List (List ℕ) → List (List ℕ)
+asked_after (Ok content) name names = names ++ name ∷ []
+asked_after (Err bad.Failed) name names = names ++ name ∷ []
+asked_after (Err bad.NoMemory) name names = names
+
+-- what a sink tells as written after n bytes more were taken
+abbrev pub written_after : ℕ → List ℕ → List ℕ → List ℕ
+written_after n bytes written = written ++ take n bytes
+
+-- one more, but never past the last value of a counter
+abbrev pub one_more : ℕ → ℕ
+one_more n = if nat_le 18446744073709551615 n then 18446744073709551615 else n + 1

@@ -1,0 +1,42 @@
+//! The types that all crates of the simulator share, and its outside: files and sinks.
+#![tactic(auto)]
+
+pub mod beacon_config;
+pub mod configs;
+pub mod files;
+pub mod items;
+pub mod link;
+pub mod mac;
+pub mod mem_files;
+pub mod mem_sink;
+pub mod name;
+pub mod no_memory;
+pub mod numbers;
+mod plan;
+pub mod port_kind;
+pub mod real;
+pub mod sink;
+pub mod text;
+pub mod time;
+pub mod wiring;
+
+pub use beacon_config::BeaconConfig;
+pub use configs::{HostConfig, MemoryConfig, NicConfig, SwitchConfig};
+pub use files::{FileBad, Files};
+pub use items::{Items, Octets};
+pub use link::Link;
+pub use mac::Mac;
+pub use mem_files::{MemFile, MemFiles};
+pub use mem_sink::MemSink;
+pub use name::Name;
+pub use no_memory::{Failed, NoMemory};
+pub use numbers::{decimal, hexadecimal, mac_text};
+pub use port_kind::{PortKind, Via};
+pub use real::{RealFiles, RealSink};
+pub use sink::Sink;
+pub use text::Text;
+pub use time::Time;
+pub use wiring::Wiring;
+
+#[cfg(test)]
+mod tests;
