@@ -1,0 +1,4 @@
+pub mod Receivable
+pub mod Refusals
+pub mod Spelling
+pub mod Stream
