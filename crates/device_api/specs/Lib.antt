@@ -1,0 +1,10 @@
+pub mod Gives
+pub mod Behaviour
+pub mod Channels
+pub mod Joined
+pub mod World
+pub mod Local
+pub mod Transcript
+pub mod Position
+pub mod Beacon
+pub mod BeaconLaws
