@@ -1,0 +1,14 @@
+pub mod Quiet
+pub mod Nested
+pub mod AgendaLaws
+pub mod ReactionLaws
+pub mod TurnLaws
+pub mod PostLaws
+pub mod Ways
+pub mod StepLaws
+pub mod UnderWay
+pub mod NextMoment
+pub mod Sending
+pub mod Arriving
+pub mod AfterStep
+pub mod StartAndEnd

@@ -1,0 +1,9 @@
+use Rattle.std.proofs.Common.{length}
+use Rattle.global_model.proofs.PostLaws.{Posts}
+use Rattle.global_model.proofs.post.post.Given as goal
+
+abbrev pub invariant-sends : goal.invariant-sends
+invariant-sends l = Posts l.routes l.from l.t l.fn.sends l.initial.inboxes l.initial.agenda l.sends l.inboxes l.agenda
+
+abbrev pub decreases-sends : goal.decreases-sends
+decreases-sends l = length l.sends

@@ -1,0 +1,28 @@
+-- What waits at each port, in the order of sending.
+use Rattle.std.specs.Prelude.{ℕ, ◌≡◌, ◌==◌, false, if◌then◌else◌, List, [], ◌∷◌, ◌++◌, slice_get, Option, Some, option_map, option_and_then}
+use Rattle.cs_base.specs.Plan.{End, same_end}
+use Rattle.sb_message.specs.declared.message.Msg.{Msg}
+
+-- the element of a component's port
+abbrev pub port_of : {X : Type 0} → List (List X) → End → Option X
+port_of lists end = option_and_then (λ ports. slice_get ports end.port) (slice_get lists end.component)
+
+abbrev pub end_at : ℕ → ℕ → End
+end_at c p = record { component = c; port = p }
+
+-- the queue of each port; None where there is no such port
+abbrev pub Queues : Type 0
+Queues = End → Option (List Msg)
+
+-- a port's queue is another one, and the others are as they were
+abbrev pub with_queue : Queues → End → List Msg → Queues
+with_queue queues end queue = λ e. if same_end end e then Some queue else queues e
+
+-- a message is put at the end of a port's queue
+abbrev pub put : End → Msg → Queues → Queues
+put end message queues = λ e. if same_end end e then option_map (λ queue. queue ++ message ∷ []) (queues e) else queues e
+
+-- the first message of a queue, if there is one, has another time
+abbrev pub StartsOff : ℕ → List Msg → Type 0
+StartsOff t [] = Unit {0}
+StartsOff t (m ∷ more) = (m.at == t) ≡ false

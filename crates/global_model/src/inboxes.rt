@@ -1,0 +1,69 @@
+ghost use Rattle.std.specs.Prelude.{◌≡◌, ◌<◌, slice_get, ◌∷◌, ◌++◌, [], Option, Some, None, IsSome, IfSome, IfNone, IfOk, OnOk, option_map, ℕ, List};
+ghost use Rattle.cs_base.specs.Plan.{End, kind_at};
+ghost use Rattle.sb_message.specs.declared.message.Msg.{Msg as Message};
+ghost use Rattle.global_model.specs.Inboxes.{port_of, end_at, with_queue, put, StartsOff};
+
+use crate::inbox::Inbox;
+use cs_base::items::Items;
+use cs_base::no_memory::NoMemory;
+use cs_base::port_kind::PortKind;
+use cs_base::time::Time;
+use sb_message::{Body, Msg};
+use std::alloc::Global;
+use std::marker::Model;
+
+/// What waits at each port of each component.
+#[derive(Drop)]
+pub struct Inboxes {
+    components: Vec<Vec<Inbox>>,
+}
+
+impl Model for Inboxes {
+    ghost use Rattle.std.specs.Prelude.{map, List};
+    ghost use Rattle.sb_message.specs.declared.message.Msg.{Msg as Message};
+
+    ghost Value = { List (List (List Message)) };
+
+    ghost view = { λ i. map (λ ports. ports.items) i.components.items };
+}
+
+impl Inboxes {
+    /// Empty inboxes of components whose ports are of these kinds.
+    pub fn new(alloc: Global, kinds: &[Items<PortKind>]) -> Result<Inboxes, NoMemory>
+        ensures { IfOk result (λ inboxes. (e : End) → IsSome (kind_at kinds.now e) → port_of inboxes e ≡ Some []) }
+    {
+        let mut components = Vec::new(alloc);
+        for (_component, ports) in kinds.iter().enumerate() {
+            components.push(empty_inboxes(alloc, ports.len())?)?;
+        }
+        Ok(Inboxes { components })
+    }
+
+    /// Puts a message at the end of a port's queue.
+    pub fn push(&mut self, component: u32, port: u32, message: Msg) -> Result<(), NoMemory>
+        requires { IsSome (port_of self.old (end_at component port)) }
+        ensures { OnOk result ((e : End) → port_of self.new e ≡ put (end_at component port) message (port_of self.old) e) }
+    {
+        self.components[component as usize][port as usize].push(message)
+    }
+
+    /// Takes the first message of a port's queue where it has this time.
+    pub fn take_at(&mut self, component: u32, port: u32, t: Time) -> Option<Body>
+        requires { IsSome (port_of self.old (end_at component port)) }
+        ensures first { IfSome result (λ body. (rest : List Message) × (port_of self.old (end_at component port) ≡ Some (record { at = t; body = body } ∷ rest)) × ((e : End) → port_of self.new e ≡ with_queue (port_of self.old) (end_at component port) rest e)) }
+        ensures none { IfNone result ((e : End) → port_of self.new e ≡ port_of self.old e) }
+        ensures starts_off { IfNone result (IfSome (port_of self.old (end_at component port)) (StartsOff t)) }
+    {
+        self.components[component as usize][port as usize].take_at(t)
+    }
+}
+
+fn empty_inboxes(alloc: Global, ports: usize) -> Result<Vec<Inbox>, NoMemory>
+    ensures { IfOk result (λ inboxes. (p : ℕ) → p < ports → slice_get inboxes.items p ≡ Some []) }
+{
+    let mut inboxes = Vec::new(alloc);
+    for _port in 0..ports {
+        inboxes.push(Inbox::new(alloc))?;
+    }
+    Ok(inboxes)
+}

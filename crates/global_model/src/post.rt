@@ -1,0 +1,39 @@
+ghost use Rattle.std.specs.Prelude.{◌≡◌, ◌^◌, ◌<◌, [], OnOk};
+ghost use Rattle.cs_base.specs.Plan.{End};
+ghost use Rattle.global_model.specs.Inboxes.{port_of};
+ghost use Rattle.global_model.specs.Post.{events_along, note_all, with_arrivals, AreRouted};
+
+use crate::agenda::Agenda;
+use crate::inboxes::Inboxes;
+use crate::routes::Routes;
+use cs_base::items::Items;
+use cs_base::no_memory::NoMemory;
+use cs_base::time::Time;
+use sb_message::{Body, Msg};
+
+/// Puts what a component sent at a time, by which port, into the inboxes where it arrives, and notes when.
+pub fn post(
+    from: u32,
+    t: Time,
+    sends: &mut Items<(u32, Body)>,
+    routes: &Routes,
+    inboxes: &mut Inboxes,
+    agenda: &mut Agenda,
+) -> Result<(), NoMemory>
+    requires in_run { t < 10 ^ 15 }
+    requires routed { AreRouted routes.now inboxes.old from sends.old }
+    ensures arrives { OnOk result ((e : End) → port_of inboxes.new e ≡ with_arrivals e (events_along routes.now from t sends.old) (port_of inboxes.old e)) }
+    ensures noted { OnOk result (agenda.new ≡ note_all (events_along routes.now from t sends.old) agenda.old) }
+    ensures emptied { OnOk result (sends.new ≡ []) }
+{
+    sends.reverse();
+    'sends: while let Some((port, body)) = sends.pop() {
+        let Some(route) = routes.get(from, port) else {
+            continue;
+        };
+        let at = Time(t.picoseconds() + route.latency.picoseconds());
+        inboxes.push(route.component, route.port, Msg { at, body })?;
+        agenda.add(at, route.component)?;
+    }
+    Ok(())
+}

@@ -1,0 +1,109 @@
+//! Two beacons that are joined by a link.
+ghost use Rattle.std.specs.Prelude.{◌≡◌, ◌≤◌, ◌^◌, ◌∷◌, [], IfOk};
+ghost use Rattle.cs_base.specs.declared.port_kind.PortKind.TheVariants.{Eth as Ethernet};
+ghost use Rattle.device_api.specs.Beacon.{IsSettledBeacon};
+
+use crate::simulate;
+use cs_base::{BeaconConfig, Items, Link, Mac, PortKind, Time, Via, Wiring};
+use device_api::{Beacon, Logs};
+use std::alloc::Global;
+use std::test::Fail;
+
+fn one_port(alloc: Global) -> Result<Items<PortKind>, Fail>
+    ensures { IfOk result (λ kinds. kinds ≡ Ethernet ∷ []) }
+{
+    let mut kinds = Items::new(alloc);
+    kinds.push(PortKind::Eth)?;
+    Ok(kinds)
+}
+
+fn pair(alloc: Global, end: u64) -> Result<Wiring, Fail>
+    ensures { IfOk result (λ wiring. wiring.kinds ≡ (Ethernet ∷ []) ∷ ((Ethernet ∷ []) ∷ [])) }
+{
+    let mut kinds = Items::new(alloc);
+    kinds.push(one_port(alloc)?)?;
+    kinds.push(one_port(alloc)?)?;
+    let mut links = Items::new(alloc);
+    links.push(Link {
+        a: 0,
+        a_port: 0,
+        b: 1,
+        b_port: 0,
+        latency: Time(500),
+        interval: Time(500),
+        slots: 64,
+        via: Via::Queue,
+    })?;
+    Ok(Wiring::new(Time(end), kinds, links).ok_or("no wiring")?)
+}
+
+fn beacon(alloc: Global, count: u32) -> Result<Beacon, Fail>
+    requires { count ≤ 10 ^ 9 }
+    ensures { IfOk result (λ beacon. IsSettledBeacon beacon 0) }
+{
+    let config = BeaconConfig {
+        first: Time(1000),
+        period: Time(1000),
+        count,
+        length: 60,
+        to: Mac([0xff; 6]),
+        from: Mac([2, 0, 0, 0, 0, 1]),
+    };
+    Ok(Beacon::start(alloc, &config)?)
+}
+
+fn logs_of_pair(alloc: Global, end: u64, a: u32, b: u32) -> Result<Logs, Fail>
+    requires a_few { a ≤ 10 ^ 9 }
+    requires b_few { b ≤ 10 ^ 9 }
+{
+    let wiring = pair(alloc, end)?;
+    let a = beacon(alloc, a)?;
+    let b = beacon(alloc, b)?;
+    let mut devices = Vec::new(alloc);
+    devices.push(a)?;
+    devices.push(b)?;
+    Ok(simulate(alloc, devices, &wiring)?)
+}
+
+fn assert_log(rt: &impl std::process::Abort, logs: &Logs, component: usize, lines: &[(u64, &str)]) {
+    let log = logs
+        .lists
+        .as_slice()
+        .get(component)
+        .map_or(0, |log| log.len());
+    assert_eq!(rt; log, lines.len());
+    for (i, (at, text)) in lines.iter().enumerate() {
+        let Some(log) = logs.lists.as_slice().get(component) else {
+            return
+        };
+        let Some(line) = log.as_slice().get(i) else {
+            return
+        };
+        assert_eq!(rt; line.at.picoseconds(), *at);
+        assert_eq!(rt; line.text.as_slice(), text.as_bytes());
+    }
+}
+
+#[test]
+fn one_sends_and_the_other_receives(rt: HostRuntime) -> Result<(), Fail> {
+    let logs = logs_of_pair(rt.alloc(), 2600, 2, 0)?;
+    assert_log(&rt, &logs, 0, &[(1000, "tx 60"), (2000, "tx 60")]);
+    assert_log(&rt, &logs, 1, &[(1500, "rx 60"), (2500, "rx 60")]);
+    Ok(())
+}
+
+#[test]
+fn an_event_at_the_end_is_not_processed(rt: HostRuntime) -> Result<(), Fail> {
+    let logs = logs_of_pair(rt.alloc(), 2500, 2, 0)?;
+    assert_log(&rt, &logs, 0, &[(1000, "tx 60"), (2000, "tx 60")]);
+    assert_log(&rt, &logs, 1, &[(1500, "rx 60")]);
+    Ok(())
+}
+
+#[test]
+fn a_long_quiet_run_is_over_at_once(rt: HostRuntime) -> Result<(), Fail> {
+    let logs = logs_of_pair(rt.alloc(), 1_000_000_000_000_000, 1, 1)?;
+    assert_log(&rt, &logs, 0, &[(1000, "tx 60"), (1500, "rx 60")]);
+    assert_log(&rt, &logs, 1, &[(1000, "tx 60"), (1500, "rx 60")]);
+    Ok(())
+}

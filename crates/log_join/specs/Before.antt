@@ -1,0 +1,11 @@
+-- When a time is after all that was logged.
+use Rattle.std.specs.Prelude.{ℕ, ◌<◌, List, All}
+use Rattle.device_api.specs.declared.logs.Line.{Line}
+
+-- each line of a log is before a time
+abbrev pub IsBefore : ℕ → List Line → Type 0
+IsBefore end log = All (λ (line : Line). line.at < end) log
+
+-- each line of every log is before a time
+abbrev pub AreBefore : ℕ → List (List Line) → Type 0
+AreBefore end logs = All (IsBefore end) logs
