@@ -1,0 +1,10 @@
+pub mod Accepted
+pub mod Answering
+pub mod ComponentsRead
+pub mod Elements
+pub mod FreePorts
+pub mod Joining
+pub mod LinksInOrder
+pub mod Names
+pub mod Sound
+pub mod Validity

@@ -1,0 +1,14 @@
+pub mod Faults
+pub mod Fields
+pub mod Keys
+pub mod Links
+pub mod LinksRead
+pub mod Macs
+pub mod Parts
+pub mod Ports
+pub mod Reading
+pub mod Reasons
+pub mod Refusals
+pub mod Seats
+pub mod Spelled
+pub mod Valid

@@ -1,0 +1,31 @@
+//! The topology file: a TOML document that says which components a system has and how they are joined.
+#![tactic(auto)]
+
+mod build;
+mod component;
+mod components;
+mod config;
+mod faults;
+mod fields;
+mod form;
+mod free_ports;
+mod joined;
+mod key;
+mod link;
+mod links;
+mod mac;
+mod ports;
+mod reader;
+mod reason;
+mod reason_text;
+mod seats;
+mod table;
+#[cfg(test)]
+mod tests;
+mod topology;
+
+pub use component::Component;
+pub use config::Config;
+pub use reader::read;
+pub use reason::{Entry, TopoBad, TopoReason};
+pub use topology::Topology;
