@@ -1,0 +1,6 @@
+pub mod CoreState
+pub mod Accesses
+pub mod Alu
+pub mod Csr
+pub mod Execution
+pub mod Parts

@@ -1,0 +1,4 @@
+pub mod Words
+pub mod Immediates
+pub mod FormatLaws
+pub mod TableLaws
