@@ -1,0 +1,4 @@
+pub mod Cuts
+pub mod LogTimes
+pub mod Serving
+pub mod Said

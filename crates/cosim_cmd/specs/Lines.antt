@@ -1,0 +1,36 @@
+-- The lines that say why a command is refused.
+use Rattle.std.specs.Prelude.{ℕ, List, [], ◌∷◌, ◌++◌, codes, decimal}
+use Rattle.topology_file.specs.declared.reason.TopoReason.{TopoReason}
+use Rattle.topology_file.specs.declared.reason.Entry.{Entry}
+use Rattle.topology_file.specs.declared.reason.Entry.TheVariants.{Top, Component, Link}
+use Rattle.topology_file.specs.Reasons.{reason_text}
+
+-- how an entry of a topology is named
+abbrev pub entry_text : Entry → List ℕ
+entry_text Top = codes "top"
+entry_text (Component i) = codes "component " ++ decimal i
+entry_text (Link i) = codes "link " ++ decimal i
+
+abbrev pub memory_line : List ℕ
+memory_line = codes "cosim: no memory\n"
+
+abbrev pub usage_line : List ℕ
+usage_line = codes "cosim: usage\n"
+
+abbrev pub out_line : List ℕ
+out_line = codes "cosim: out\n"
+
+-- about a file that can't be read
+abbrev pub file_line : List ℕ → List ℕ
+file_line name = codes "cosim: file " ++ name ++ 10 ∷ []
+
+-- about a topology file that is no TOML document, or is refused for a reason at an entry
+abbrev pub toml_line : List ℕ
+toml_line = codes "cosim: topology toml\n"
+
+abbrev pub topology_line : TopoReason → Entry → List ℕ
+topology_line reason entry = codes "cosim: topology " ++ reason_text reason ++ codes " at " ++ entry_text entry ++ 10 ∷ []
+
+-- about a component that can't be served yet
+abbrev pub not_built_line : ℕ → List ℕ
+not_built_line i = codes "cosim: not built " ++ entry_text (Component i) ++ 10 ∷ []
