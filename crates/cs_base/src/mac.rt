@@ -1,5 +1,5 @@
 ghost use Rattle.std.specs.Prelude.{◌≡◌, List, ℕ, IsTrue, ◌↔◌, length};
-ghost use Rattle.cs_base.specs.Names.{is_individual};
+ghost use Rattle.cs_base.specs.Names.{is_individual, IsAddress};
 
 use std::marker::Model;
 
@@ -8,9 +8,14 @@ use std::marker::Model;
 pub struct Mac(pub [u8; 6]);
 
 impl Model for Mac {
+    ghost use Rattle.std.specs.Prelude.{List, ℕ};
+    ghost use Rattle.cs_base.specs.Names.{IsAddress};
+
     ghost Value = { List ℕ };
 
     ghost view = { λ m. m.0 };
+
+    ghost invariant = { λ m. IsAddress m.0 };
 
     ghost inverse = { λ bytes. record { 0 = bytes } };
 }
@@ -19,7 +24,7 @@ impl Mac {
     /// The six bytes.
     pub fn bytes(self) -> [u8; 6]
         ensures bytes { result ≡ self }
-        ensures six { length self ≡ 6 }
+        ensures address { IsAddress self }
     {
         self.0
     }
