@@ -115,3 +115,13 @@ fn a_frame(rt: HostRuntime) -> Result<(), Fail> {
     assert_eq!(rt; refused(&rt, PortKind::Eth, &bytes[0..77]), short);
     Ok(())
 }
+
+#[test]
+fn a_body_once_more(rt: HostRuntime) -> Result<(), Fail> {
+    let mut frame = Octets::new(rt.alloc());
+    frame.append(&[0xab; 14])?;
+    let body = Body::Eth(EthMsg::new(frame).ok_or("a frame")?);
+    assert!(rt; matches!(body.copy()?, Body::Eth(again) if again.frame() == [0xab; 14].as_slice()));
+    assert!(rt; matches!(Body::Sync.copy()?, Body::Sync));
+    Ok(())
+}
