@@ -4,6 +4,7 @@ pub mod Channels
 pub mod Joined
 pub mod World
 pub mod Local
+pub mod Parts
 pub mod Transcript
 pub mod Position
 pub mod Beacon

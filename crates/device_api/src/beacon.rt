@@ -1,8 +1,13 @@
-ghost use Rattle.std.specs.Prelude.{◌≡◌, ◌++◌, ◌∷◌, [], IfOk, OnOk, decimal, length};
-ghost use Rattle.device_api.specs.Beacon.{started, frame_of, IsSettledBeacon};
+ghost use Rattle.std.specs.Prelude.{◌≡◌, ◌+◌, ◌*◌, ◌^◌, ◌≤◌, ◌↔◌, ◌++◌, ◌∷◌, [], ℕ, IsTrue, IfOk, IsOk, OnOk, Ok, Err, decimal, length};
+ghost use Rattle.cs_base.specs.declared.beacon_config.BeaconConfig.{BeaconConfig};
+ghost use Rattle.device_api.specs.Behaviour.{IsNotPast};
+ghost use Rattle.device_api.specs.Beacon.{started, frame_of, beacon_due, IsSettledBeacon};
+ghost use Rattle.device_api.specs.Parts.{parts_of, resumed, IsOf, StandsBefore};
+ghost use Rattle.device_api.specs.declared.parts_bad.PartsBad.TheVariants.{Invalid};
 
 use crate::device::Device;
 use crate::effects::Effects;
+use crate::parts_bad::PartsBad;
 use cs_base::beacon_config::BeaconConfig;
 use cs_base::items::Octets;
 use cs_base::no_memory::NoMemory;
@@ -22,6 +27,32 @@ pub struct Beacon {
     sent: u32,
 }
 
+/// What is kept of a beacon beside its configuration, so that it can be made again.
+#[derive(Clone, Copy, Debug, PartialEq, Eq)]
+pub struct BeaconParts {
+    /// How many frames it has sent.
+    pub sent: u32,
+}
+
+impl BeaconParts {
+    /// Whether a beacon of the configuration may have sent so many frames before `at`: no more than the count, the
+    /// last one before `at`, and the next one, where there is one, isn't due before `at`.
+    pub fn is_valid(&self, config: &BeaconConfig, at: Time) -> bool
+        ensures { IsTrue result ↔ StandsBefore at (resumed config.now self.now) }
+    {
+        self.sent <= config.count
+            && (self.sent == 0 || time_of(config, self.sent - 1) < u128::from(at.0))
+            && (self.sent == config.count || u128::from(at.0) <= time_of(config, self.sent))
+    }
+}
+
+/// When frame `k` of a beacon is sent, in picoseconds.
+fn time_of(config: &BeaconConfig, k: u32) -> u128
+    ensures { result ≡ config.now.first + k * config.now.period }
+{
+    u128::from(config.first.0) + u128::from(k) * u128::from(config.period.0)
+}
+
 impl Model for Beacon {
     ghost use Rattle.std.specs.Prelude.{◌+◌, ◌*◌, ◌^◌, ◌≤◌};
     ghost use Rattle.device_api.specs.Beacon.{BeaconState, started};
@@ -30,7 +61,7 @@ impl Model for Beacon {
 
     ghost view = { λ b. record (started b.config) { sent = b.sent } };
 
-    ghost invariant = { λ b. b.config.first + b.sent * b.config.period ≤ 2 * 10 ^ 15 };
+    ghost invariant = { λ b. (b.sent ≤ b.config.count) × (b.config.first + b.sent * b.config.period ≤ 2 * 10 ^ 15) };
 }
 
 impl Beacon {
@@ -42,6 +73,40 @@ impl Beacon {
         Ok(Beacon {
             config: *config,
             sent: 0,
+        })
+    }
+
+    /// Keeps the beacon as parts, as it stands before any event at `at` or later.
+    pub fn into_parts(self, at: Time) -> Result<BeaconParts, NoMemory>
+        requires settled_then { IsSettledBeacon self at }
+        requires not_past { IsNotPast at (beacon_due self) }
+        requires in_run { at ≤ 10 ^ 15 }
+        ensures parts { result ≡ Ok (parts_of self) }
+        // With the configuration that the beacon was started with, its parts are valid and make it again.
+        ensures valid { (config : BeaconConfig) → IsOf config self → StandsBefore at (resumed config (parts_of self)) }
+        ensures again { (config : BeaconConfig) → IsOf config self → resumed config (parts_of self) ≡ self }
+    {
+        Ok(BeaconParts { sent: self.sent })
+    }
+
+    /// The beacon that the parts make, before any event at `at` or later.
+    pub fn from_parts(
+        config: &BeaconConfig,
+        at: Time,
+        parts: BeaconParts,
+    ) -> Result<Beacon, PartsBad>
+        requires { at ≤ 10 ^ 15 }
+        ensures state { IfOk result (λ beacon. beacon ≡ resumed config.now parts) }
+        ensures settled { IfOk result (λ beacon. (x : ℕ) → at ≤ x → IsSettledBeacon beacon x) }
+        ensures valid { IsOk result ↔ StandsBefore at (resumed config.now parts) }
+        ensures invalid { (result ≡ Err Invalid) ↔ (¬ StandsBefore at (resumed config.now parts)) }
+    {
+        if !parts.is_valid(config, at) {
+            return Err(PartsBad::Invalid);
+        }
+        Ok(Beacon {
+            config: *config,
+            sent: parts.sent,
         })
     }
 
