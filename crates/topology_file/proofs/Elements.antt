@@ -1,5 +1,6 @@
 -- The elements of an array as a list.
-use Rattle.std.proofs.Common.{◌≡◌, ℕ, zero, suc, List, [], ◌∷◌, map, get_or, refl, ap}
+use Rattle.std.proofs.Common.{◌≡◌, ℕ, zero, suc, ◌+◌, ◌<◌, List, [], ◌∷◌, ◌++◌, length, map, take, get_or, refl, ap, sym, ◌∙◌}
+use Rattle.std.proofs.lemmas.List.{take_more, map-append}
 use Rattle.toml.specs.View.{view, items_view}
 use Rattle.toml.specs.declared.value.Value.{Value}
 use Rattle.topology_file.specs.Fields.{list_of}
@@ -13,3 +14,9 @@ pub get_or-map : {A B : Type 0} (f : A → B) (xs : List A) (i : ℕ) (x : A) �
 get_or-map f [] i x this = refl
 get_or-map f (y ∷ ys) zero x this = ap f this
 get_or-map f (y ∷ ys) (suc i) x this = get_or-map f ys i x this
+
+-- one more element that was made of the next
+pub map_more : {A B C : Type 0} (f : A → C) (g : B → C) (xs : List A) (ys : List B) (i : ℕ) (x : A) (y : B) → map f xs ≡ map g (take i ys) → i < length ys → y ≡ get_or ys i y → f x ≡ g y → map f (xs ++ x ∷ []) ≡ map g (take (i + 1) ys)
+map_more f g xs ys i x y so_far within this told =
+    let taken = take_more ys i y within ∙ ap (λ next. take i ys ++ next ∷ []) (sym this) in
+    map-append f xs (x ∷ []) ∙ ap (λ front. front ++ f x ∷ []) so_far ∙ ap (λ next. map g (take i ys) ++ next ∷ []) told ∙ sym (ap (map g) taken ∙ map-append g (take i ys) (y ∷ []))

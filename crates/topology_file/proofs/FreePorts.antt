@@ -29,12 +29,12 @@ passes_at test a (suc n) (suc k) all below =
     let same : a + suc k ≡ (a + 1) + k = omega arith in
     ap test same ∙ passes_at test (a + 1) n k (and_parts (test a) (list_all test (range_with_len (a + 1) n)) all).1 (omega arith)
 
-within_ports : (ports : List PortKind) (port : ℕ) → is_some (slice_get ports port) ≡ true → port < length ports
+pub within_ports : (ports : List PortKind) (port : ℕ) → is_some (slice_get ports port) ≡ true → port < length ports
 within_ports [] port there = absurd (false≢true there)
 within_ports (kind ∷ ports) zero there = omega arith
 within_ports (kind ∷ ports) (suc port) there = omega (arith, within_ports ports port there)
 
-abbrev end_at : ℕ → ℕ → End
+abbrev pub end_at : ℕ → ℕ → End
 end_at component port = record { component = component; port = port }
 
 -- where no port is free, each port is in a link

@@ -3,8 +3,17 @@ pub mod Answering
 pub mod ComponentsRead
 pub mod Elements
 pub mod FreePorts
+pub mod FullComponents
+pub mod FullLinks
+pub mod FullPorts
+pub mod FullRead
 pub mod Joining
 pub mod LinksInOrder
+pub mod MacsWritten
 pub mod Names
+pub mod Passing
+pub mod Places
+pub mod Putting
+pub mod Shallow
 pub mod Sound
 pub mod Validity

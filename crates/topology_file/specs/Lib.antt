@@ -1,5 +1,6 @@
 pub mod Faults
 pub mod Fields
+pub mod Full
 pub mod Keys
 pub mod Links
 pub mod LinksRead
@@ -11,4 +12,5 @@ pub mod Reasons
 pub mod Refusals
 pub mod Seats
 pub mod Spelled
+pub mod Typed
 pub mod Valid

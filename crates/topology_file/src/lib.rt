@@ -5,6 +5,7 @@ mod build;
 mod component;
 mod components;
 mod config;
+mod entry_writer;
 mod faults;
 mod fields;
 mod form;
@@ -15,6 +16,7 @@ mod link;
 mod links;
 mod mac;
 mod ports;
+mod printer;
 mod reader;
 mod reason;
 mod reason_text;
@@ -23,9 +25,12 @@ mod table;
 #[cfg(test)]
 mod tests;
 mod topology;
+mod type_laws;
+mod written;
 
 pub use component::Component;
 pub use config::Config;
+pub use printer::print;
 pub use reader::read;
 pub use reason::{Entry, TopoBad, TopoReason};
 pub use topology::Topology;
