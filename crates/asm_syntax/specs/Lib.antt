@@ -1,0 +1,13 @@
+pub mod Bytes
+pub mod Faults
+pub mod InRange
+pub mod Instructions
+pub mod Lines
+pub mod Mnemonics
+pub mod Numbers
+pub mod Operands
+pub mod Places
+pub mod Registers
+pub mod Rows
+pub mod Statements
+pub mod Stops
