@@ -1,0 +1,8 @@
+pub mod FirstLines
+pub mod Noting
+pub mod Outcomes
+pub mod Placing
+pub mod Reach
+pub mod Standing
+pub mod UnderWay
+pub mod WordBounds

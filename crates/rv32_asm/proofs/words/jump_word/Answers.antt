@@ -1,0 +1,8 @@
+use Rattle.std.proofs.Common.{sym, ◌∙◌}
+use Rattle.rv32_asm.proofs.Reach.{jump_fails}
+use Rattle.rv32_asm.specs.Meaning.{offset}
+use Rattle.rv32_asm.proofs.words.jump_word.Goals as goal
+
+pub returns-in_err-near_offset : goal.returns-in_err-near_offset
+returns-in_err-near_offset c =
+    c.from_residual.ensures ∙ sym (jump_fails c.args.rd (offset c.args.at c.args.to) c.in_err-near_offset.ensures.far)

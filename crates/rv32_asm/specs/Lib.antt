@@ -1,0 +1,10 @@
+pub mod Assembled
+pub mod Decoding
+pub mod Faults
+pub mod LabelMap
+pub mod LaidOut
+pub mod Layout
+pub mod Meaning
+pub mod Reasons
+pub mod Sources
+pub mod WordsSeen
