@@ -1,0 +1,4 @@
+pub mod Received
+pub mod LeastTrees
+pub mod Chained
+pub mod Files

@@ -1,0 +1,192 @@
+//! The frames of a worked example, a full table, and that calls succeed.
+ghost use Rattle.std.specs.Prelude.{◌≡◌, ◌≤◌, ◌<◌, ◌+◌, ◌^◌, OnOk};
+ghost use Rattle.switch_sim.specs.Switch.{IsSettledSwitch};
+
+use crate::Switch;
+use cs_base::{Mac, Octets, SwitchConfig, Time, decimal};
+use device_api::{Device, Effects};
+use eth_proto::EthMsg;
+use sb_message::Body;
+use std::alloc::Global;
+use std::test::Fail;
+
+const A: [u8; 6] = [2, 0, 0, 0, 0, 0x0a];
+
+const B: [u8; 6] = [2, 0, 0, 0, 0, 0x0b];
+
+const C: [u8; 6] = [2, 0, 0, 0, 0, 0x0c];
+
+const GROUP: [u8; 6] = [3, 0, 0, 0, 0, 1];
+
+const RESERVED: [u8; 6] = [0x01, 0x80, 0xc2, 0, 0, 0];
+
+/// A frame that arrives, and what is logged and by which ports it is sent.
+struct Case {
+    at: u64,
+    port: u32,
+    from: [u8; 6],
+    to: [u8; 6],
+    does: &'static str,
+}
+
+const CASES: [Case; 7] = [
+    Case {
+        at: 0,
+        port: 0,
+        from: A,
+        to: B,
+        does: "learn 02:00:00:00:00:0a 0, flood, 1 2 ",
+    },
+    Case {
+        at: 10,
+        port: 1,
+        from: B,
+        to: A,
+        does: "learn 02:00:00:00:00:0b 1, forward 0, 0 ",
+    },
+    Case {
+        at: 20,
+        port: 0,
+        from: C,
+        to: A,
+        does: "learn 02:00:00:00:00:0c 0, filter, ",
+    },
+    Case {
+        at: 999,
+        port: 1,
+        from: B,
+        to: A,
+        does: "forward 0, 0 ",
+    },
+    Case {
+        at: 1000,
+        port: 1,
+        from: B,
+        to: A,
+        does: "flood, 0 2 ",
+    },
+    Case {
+        at: 1001,
+        port: 2,
+        from: GROUP,
+        to: B,
+        does: "forward 1, 1 ",
+    },
+    Case {
+        at: 1002,
+        port: 1,
+        from: B,
+        to: RESERVED,
+        does: "filter, ",
+    },
+];
+
+/// What the switch does with a frame of 60 bytes.
+fn takes(alloc: Global, switch: &mut Switch, now: u64, case: &Case) -> Result<Effects, Fail>
+    requires settled { IsSettledSwitch switch.old now }
+    requires later { now ≤ case.now.at + 1 }
+    requires in_run { case.now.at < 10 ^ 15 }
+    requires port { case.now.port < switch.old.ports }
+    ensures settled { OnOk result (IsSettledSwitch switch.new (case.now.at + 1)) }
+    ensures ports { OnOk result (switch.new.ports ≡ switch.old.ports) }
+{
+    let mut out = Effects::new(alloc);
+    let mut frame = Octets::new(alloc);
+    frame.append(&case.to)?;
+    frame.append(&case.from)?;
+    frame.append(&[0; 48])?;
+    let message = EthMsg::new(frame).ok_or("no frame")?;
+    switch.take(
+        alloc,
+        Time(case.at),
+        case.port,
+        Body::Eth(message),
+        &mut out,
+    )?;
+    Ok(out)
+}
+
+/// Lines and ports of sends as a text.
+fn text_of(alloc: Global, out: &Effects) -> Result<Octets, Fail> {
+    let mut text = Octets::new(alloc);
+    for line in out.lines.as_slice() {
+        text.append(line.as_slice())?;
+        text.append(b", ")?;
+    }
+    for (port, _body) in out.sends.as_slice() {
+        decimal(u64::from(*port), &mut text)?;
+        text.append(b" ")?;
+    }
+    Ok(text)
+}
+
+#[test]
+fn frames_are_learned_from_and_relayed(rt: HostRuntime) -> Result<(), Fail> {
+    let config = SwitchConfig {
+        ports: 3,
+        age: Time(1000),
+    };
+    let mut switch = Switch::start(rt.alloc(), &config)?;
+    let mut now = 0;
+    for case in &CASES {
+        if case.port < 3 && now <= case.at && case.at < 2000 {
+            let out = takes(rt.alloc(), &mut switch, now, case)?;
+            now = case.at + 1;
+            assert_eq!(rt; text_of(rt.alloc(), &out)?.as_slice(), case.does.as_bytes());
+        }
+    }
+    assert_eq!(rt; now, 1003);
+    Ok(())
+}
+
+fn station(number: u64) -> Mac
+    requires { number < 65536 }
+{
+    Mac([2, 0, 0, 0, (number / 256) as u8, (number % 256) as u8])
+}
+
+/// Learns that a station is at a port of a switch of two ports, whose frames so far were before `now`.
+fn learns(switch: &mut Switch, now: u64, t: u64, number: u64, port: u32) -> bool
+    requires settled { IsSettledSwitch switch.old now }
+    requires later { now ≤ t + 1 }
+    requires number { number < 65536 }
+    requires ports { switch.old.ports ≡ 2 }
+    requires port { port < 2 }
+    ensures settled { IsSettledSwitch switch.new (t + 1) }
+    ensures ports { switch.new.ports ≡ 2 }
+{
+    switch.learn(Time(t), station(number), port)
+}
+
+#[test]
+fn a_full_table_keeps_its_live_entries(rt: HostRuntime) -> Result<(), Fail> {
+    let config = SwitchConfig {
+        ports: 2,
+        age: Time(5000),
+    };
+    let mut switch = Switch::start(rt.alloc(), &config)?;
+    for number in 0..4096 {
+        assert!(rt; learns(&mut switch, number, number, number, 0), "{number}");
+    }
+    assert!(rt; !learns(&mut switch, 4096, 4999, 5000, 1));
+    assert!(rt; switch.lookup(Time(4999), station(5000)).is_none());
+    assert!(rt; switch.lookup(Time(4999), station(0)) == Some(0));
+    assert!(rt; learns(&mut switch, 5000, 5000, 5000, 1));
+    assert!(rt; switch.lookup(Time(5000), station(5000)) == Some(1));
+    assert!(rt; switch.lookup(Time(5000), station(0)).is_none());
+    assert!(rt; switch.lookup(Time(5000), station(1)) == Some(0));
+    assert!(rt; !learns(&mut switch, 5001, 5000, 5001, 1));
+    Ok(())
+}
+
+#[test]
+fn a_switch_may_have_no_port(rt: HostRuntime) -> Result<(), Fail> {
+    let config = SwitchConfig {
+        ports: 0,
+        age: Time(1),
+    };
+    let switch = Switch::start(rt.alloc(), &config)?;
+    assert_eq!(rt; switch.ports(), 0);
+    assert!(rt; switch.due().is_none());
+    Ok(())
+}
