@@ -1,4 +1,6 @@
 pub mod Cuts
+pub mod WordKinds
+pub mod ClapWords
 pub mod LogTimes
 pub mod Serving
 pub mod Said

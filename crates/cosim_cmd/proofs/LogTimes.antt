@@ -1,12 +1,11 @@
 -- The logs of the global run: one for each component, of lines before its end.
-use Rattle.std.proofs.Common.{ℕ, ◌≡◌, ◌+◌, ◌<◌, ◌≤◌, zero, suc, List, [], Option, Some, None, length, refl, subst, ◌∙◌, arith}
-use Rattle.std.specs.Prelude.{All, map, slice_get}
+use Rattle.std.proofs.Common.{ℕ, ◌≡◌, ◌<◌, ◌≤◌, zero, suc, List, Option, Some, None, length, refl, subst, ◌∙◌, arith}
+use Rattle.std.specs.Prelude.{All, slice_get}
 use Rattle.std.proofs.lemmas.List.Elements.{All-append, All-map, All-set}
 use Rattle.std.proofs.lemmas.List.{length-set, length-map}
 use Rattle.std.proofs.lemmas.Option.{slice_get_within, get_or_from_slice_get}
 use Rattle.device_api.specs.declared.logs.Line.{Line}
-use Rattle.device_api.specs.Behaviour.{Reaction}
-use Rattle.device_api.specs.World.{World, Run, Network, start_run, after, logged_at, react, arrivals_for, with_reaction, turn_of, slot, global_until, logs_of}
+use Rattle.device_api.specs.World.{World, Run, Network, start_run, after, logged_at, react, arrivals_for, turn_of, slot, global_until, logs_of}
 use Rattle.log_join.specs.Before.{IsBefore, AreBefore}
 
 -- each run's lines are before a time

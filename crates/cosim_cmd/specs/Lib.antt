@@ -1,8 +1,15 @@
+pub mod AnyDevice
+pub mod AnyDeviceLaws
 pub mod Served
 pub mod StartBads
 pub mod Sentence
+pub mod Said
 pub mod Lines
 pub mod Written
+pub mod NoTopology
+pub mod Check
 pub mod Model
+pub mod Asm
 pub mod Refusals
+pub mod Outputs
 pub mod Local

@@ -4,6 +4,8 @@ use Rattle.topology_file.specs.declared.reason.TopoReason.{TopoReason}
 use Rattle.topology_file.specs.declared.reason.Entry.{Entry}
 use Rattle.topology_file.specs.declared.reason.Entry.TheVariants.{Top, Component, Link}
 use Rattle.topology_file.specs.Reasons.{reason_text}
+use Rattle.rv32_asm.specs.Reasons.{reason_text as asm_reason_text}
+use Rattle.rv32_asm.specs.declared.reason.AsmReason.{AsmReason}
 
 -- how an entry of a topology is named
 abbrev pub entry_text : Entry → List ℕ
@@ -34,3 +36,7 @@ topology_line reason entry = codes "cosim: topology " ++ reason_text reason ++ c
 -- about a component that can't be served yet
 abbrev pub not_built_line : ℕ → List ℕ
 not_built_line i = codes "cosim: not built " ++ entry_text (Component i) ++ 10 ∷ []
+
+-- about a line of an assembler's source
+abbrev pub asm_line : ℕ → AsmReason → List ℕ
+asm_line number reason = codes "cosim: asm " ++ decimal number ++ codes " " ++ asm_reason_text reason ++ 10 ∷ []

@@ -1,13 +1,12 @@
 -- What a command has done where it is refused, and where it isn't.
-use Rattle.std.specs.Prelude.{ℕ, ◌≡◌, ◌≢◌, ◌⊎◌, ◌++◌, ◌∷◌, [], ◌==◌, List, Option, Some, None, IsSome, IfSome, option_map, ⊤, IsTrue}
+use Rattle.std.specs.Prelude.{ℕ, ◌≡◌, ◌⊎◌, ◌++◌, ◌∷◌, [], ◌==◌, List, Option, Some, None, IfSome, option_map, ⊤, IsTrue}
 use Rattle.std.specs.List.{list_any}
 use Rattle.cs_base.specs.Outside.{Rose}
 use Rattle.cosim_cmd.specs.declared.refusal.Refusal.{Refusal}
 use Rattle.cosim_cmd.specs.declared.refusal.Refusal.TheVariants as refused
-use Rattle.cosim_cmd.specs.Refusals.{IsTextRefusal, line_of}
 use Rattle.cosim_cmd.specs.Lines.{file_line}
-use Rattle.cosim_cmd.specs.Sentence.{model_file}
-use Rattle.cosim_cmd.specs.Model.{IsModelled, IsNotBuilt, IsRefusedWith, IsNoDocumentWith}
+use Rattle.cosim_cmd.specs.Sentence.{Sentence, sentence_of, file_of}
+use Rattle.cosim_cmd.specs.Outputs.{IsOutput, LacksTopology, LacksDevice, LacksProgram, Accepts}
 use Rattle.cosim_cmd.specs.Written.{Appends, IsCut, IsAttempted}
 
 -- the bytes are what is told
@@ -35,54 +34,64 @@ IsFileRefusal name asked asked' faults faults' (refused.File line) = IsUnread na
 IsFileRefusal name asked asked' faults faults' (refused.Topology line) = ⊥
 IsFileRefusal name asked asked' faults faults' (refused.NotBuilt line) = ⊥
 IsFileRefusal name asked asked' faults faults' refused.Out = ⊥
+IsFileRefusal name asked asked' faults faults' (refused.Asm line) = ⊥
 
--- the words name a file, and a text of which a fact holds was read from it; where its content is told, that is
--- the text
-pub record IsOfFile (words : List (List ℕ)) (contents : List ℕ → Option (List ℕ)) (P : List ℕ → Type 0) : Type 0 where
-  pub name : List ℕ
-  pub named : model_file words ≡ Some name
+-- the words are a sentence, and of it and of the bytes of its file a fact holds; where the file's content is told,
+-- that is the bytes
+pub record IsOfFile (words : List (List ℕ)) (contents : List ℕ → Option (List ℕ)) (P : Sentence → List ℕ → Type 0) : Type 0 where
+  pub sentence : Sentence
+  pub said : sentence_of words ≡ Some sentence
   pub bytes : List ℕ
-  pub told : IsTold (contents name) bytes
-  pub fact : P bytes
+  pub told : IsTold (contents (file_of sentence)) bytes
+  pub fact : P sentence bytes
 
--- the words name a file that can't be read, and the line says so
+-- the words are a sentence whose file can't be read, and the line says so
 pub record IsUnreadFile (words : List (List ℕ)) (asked asked' : Option (List (List ℕ))) (faults faults' : ℕ) (line : List ℕ) : Type 0 where
-  pub name : List ℕ
-  pub named : model_file words ≡ Some name
-  pub unread : IsUnread name asked asked' faults faults'
-  pub line_is : line ≡ file_line name
+  pub sentence : Sentence
+  pub said : sentence_of words ≡ Some sentence
+  pub unread : IsUnread (file_of sentence) asked asked' faults faults'
+  pub line_is : line ≡ file_line (file_of sentence)
 
--- the output for a text was written whole, or cut short
-pub record IsWritten (bytes : List ℕ) (written written' : Option (List ℕ)) : Type 0 where
+-- the output for the bytes was written whole, or cut short
+pub record IsWritten (written written' : Option (List ℕ)) (sentence : Sentence) (bytes : List ℕ) : Type 0 where
   pub text : List ℕ
-  pub modelled : IsModelled bytes text
+  pub output : IsOutput sentence bytes text
   pub whole : Appends written written' text
 
-pub record IsCutOutput (written written' : Option (List ℕ)) (faults faults' : ℕ) (bytes : List ℕ) : Type 0 where
+pub record IsCutOutput (written written' : Option (List ℕ)) (faults faults' : ℕ) (sentence : Sentence) (bytes : List ℕ) : Type 0 where
   pub text : List ℕ
-  pub modelled : IsModelled bytes text
+  pub output : IsOutput sentence bytes text
   pub cut : IsCut written written' text faults faults'
-
--- the bytes are no topology text, and the line says why
-abbrev pub IsNoTopology : List ℕ → List ℕ → Type 0
-IsNoTopology line bytes = IsRefusedWith bytes line ⊎ IsNoDocumentWith bytes line
 
 -- why a command is refused, and what it left
 abbrev pub IsRefusal : List (List ℕ) → (List ℕ → Option (List ℕ)) → Option (List (List ℕ)) → Option (List (List ℕ)) → ℕ → ℕ → Option (List ℕ) → Option (List ℕ) → ℕ → ℕ → Refusal → Type 0
-IsRefusal words contents asked asked' faults faults' written written' out out' refused.NoMemory = IsSome (model_file words) × (written' ≡ written)
-IsRefusal words contents asked asked' faults faults' written written' out out' refused.Usage = (model_file words ≡ None) × (written' ≡ written)
+IsRefusal words contents asked asked' faults faults' written written' out out' refused.NoMemory = written' ≡ written
+IsRefusal words contents asked asked' faults faults' written written' out out' refused.Usage = (sentence_of words ≡ None) × (written' ≡ written)
 IsRefusal words contents asked asked' faults faults' written written' out out' (refused.File line) = IsUnreadFile words asked asked' faults faults' line × (written' ≡ written)
-IsRefusal words contents asked asked' faults faults' written written' out out' (refused.Topology line) = IsOfFile words contents (IsNoTopology line) × (written' ≡ written)
-IsRefusal words contents asked asked' faults faults' written written' out out' (refused.NotBuilt line) = IsOfFile words contents (λ bytes. IsNotBuilt bytes line) × (written' ≡ written)
+IsRefusal words contents asked asked' faults faults' written written' out out' (refused.Topology line) = IsOfFile words contents (λ s bytes. LacksTopology s bytes line) × (written' ≡ written)
+IsRefusal words contents asked asked' faults faults' written written' out out' (refused.NotBuilt line) = IsOfFile words contents (λ s bytes. LacksDevice s bytes line) × (written' ≡ written)
+IsRefusal words contents asked asked' faults faults' written written' out out' (refused.Asm line) = IsOfFile words contents (λ s bytes. LacksProgram s bytes line) × (written' ≡ written)
 IsRefusal words contents asked asked' faults faults' written written' out out' refused.Out = IsOfFile words contents (IsCutOutput written written' out out')
 
--- no name is asked for but that of the file that the words name, and that one at most once
+-- no name is asked for but that of the sentence's file, and that one at most once
 abbrev pub AsksForFile : List (List ℕ) → Option (List (List ℕ)) → Option (List (List ℕ)) → Type 0
-AsksForFile words asked asked' = (asked' ≡ asked) ⊎ IfSome (model_file words) (λ name. AsksFor name asked asked')
+AsksForFile words asked asked' = (asked' ≡ asked) ⊎ IfSome (sentence_of words) (λ s. AsksFor (file_of s) asked asked')
+
+-- a count of faults didn't rise
+abbrev pub Stays : ℕ → ℕ → Type 0
+Stays before after = Rose before after → ⊥
+
+-- the words are a sentence, and its file is told to hold what its command can take
+pub record IsAccepted (words : List (List ℕ)) (contents : List ℕ → Option (List ℕ)) : Type 0 where
+  pub sentence : Sentence
+  pub said : sentence_of words ≡ Some sentence
+  pub bytes : List ℕ
+  pub told : contents (file_of sentence) ≡ Some bytes
+  pub accepted : Accepts sentence bytes
 
 -- the exit statuses
 abbrev pub IsStatus : ℕ → Type 0
-IsStatus status = IsTrue (list_any (λ known. known == status) (0 ∷ (1 ∷ (2 ∷ (3 ∷ (4 ∷ (9 ∷ (20 ∷ []))))))))
+IsStatus status = IsTrue (list_any (λ known. known == status) (0 ∷ (1 ∷ (2 ∷ (3 ∷ (4 ∷ (9 ∷ (11 ∷ (20 ∷ [])))))))))
 
 -- a line of which a fact holds was said: written whole, or in part where the count of faults rose
 pub record Says (said said' : Option (List ℕ)) (faults faults' : ℕ) (P : List ℕ → Type 0) : Type 0 where

@@ -1,21 +1,57 @@
--- Which lists of words are sentences.
-use Rattle.std.specs.Prelude.{ℕ, Bool, true, false, not, ◌&&◌, ◌==◌, String, List, [], ◌∷◌, map, codes, Option, Some, None, if◌then◌else◌}
+-- Which lists of words are sentences, and what they say.
+use Rattle.std.specs.Prelude.{ℕ, Bool, false, ◌==◌, String, List, [], ◌∷◌, map, codes, Option, Some, None, option_map, option_and_then, if◌then◌else◌}
 use Rattle.std.specs.Str.{bytes_eq}
 use Rattle.std.specs.String.{string_bytes}
 use Rattle.std.specs.declared.alloc.Global.{Global}
 
+abbrev pub Text : Type 0
+Text = List ℕ
+
 -- the bytes of each word
-abbrev pub texts : List (String Global) → List (List ℕ)
+abbrev pub texts : List (String Global) → List Text
 texts words = map string_bytes words
 
--- a word that begins with `-`
-abbrev pub is_dashed : List ℕ → Bool
-is_dashed [] = false
-is_dashed (b ∷ more) = b == 45
+-- a word that begins with `-` and isn't `-` alone
+abbrev pub is_option : Text → Bool
+is_option [] = false
+is_option (b ∷ []) = false
+is_option (b ∷ (c ∷ more)) = b == 45
 
--- the file of the sentence `model <file>`
-abbrev pub model_file : List (List ℕ) → Option (List ℕ)
-model_file [] = None
-model_file (command ∷ []) = None
-model_file (command ∷ (file ∷ [])) = if bytes_eq command (codes "model") && not (is_dashed file) then Some file else None
-model_file (command ∷ (file ∷ (word ∷ more))) = None
+-- the positional words in their order; None where a word is an option's, since no command has an option. After a
+-- word `--`, which is itself not counted, every word is positional
+abbrev pub positionals : List Text → Option (List Text)
+positionals [] = Some []
+positionals (word ∷ more) =
+    if bytes_eq word (codes "--") then Some more
+    else if is_option word then None
+    else option_map (λ words. word ∷ words) (positionals more)
+
+-- the word of a list of one
+abbrev pub single : List Text → Option Text
+single [] = None
+single (word ∷ []) = Some word
+single (word ∷ (other ∷ more)) = None
+
+-- the one positional word
+abbrev pub file_word : List Text → Option Text
+file_word words = option_and_then single (positionals words)
+
+-- what the words say: a command and its file
+pub data Sentence : Type 0 where
+  Check : Text → Sentence
+  Model : Text → Sentence
+  Asm : Text → Sentence
+
+abbrev pub file_of : Sentence → Text
+file_of (Check file) = file
+file_of (Model file) = file
+file_of (Asm file) = file
+
+-- the first word is the command's name, and the words after it are the command's own
+abbrev pub sentence_of : List Text → Option Sentence
+sentence_of [] = None
+sentence_of (command ∷ words) =
+    if bytes_eq command (codes "check") then option_map Check (file_word words)
+    else if bytes_eq command (codes "model") then option_map Model (file_word words)
+    else if bytes_eq command (codes "asm") then option_map Asm (file_word words)
+    else None

@@ -1,5 +1,5 @@
 -- Why components can't be started.
-use Rattle.std.specs.Prelude.{ℕ, ◌≡◌, List, Some, ⊤}
+use Rattle.std.specs.Prelude.{◌≡◌, List, Some, ⊤}
 use Rattle.topology_file.specs.declared.component.Component.{Component}
 use Rattle.cosim_cmd.specs.declared.serve.StartBad.{StartBad}
 use Rattle.cosim_cmd.specs.declared.serve.StartBad.TheVariants as bad

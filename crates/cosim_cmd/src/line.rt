@@ -1,8 +1,9 @@
 //! The lines that say why a command is refused.
 ghost use Rattle.std.specs.Prelude.{◌≡◌, ◌++◌, IfOk, OnOk};
-ghost use Rattle.cosim_cmd.specs.Lines.{entry_text, file_line, toml_line, topology_line, not_built_line};
+ghost use Rattle.cosim_cmd.specs.Lines.{entry_text, file_line, toml_line, topology_line, not_built_line, asm_line};
 
 use cs_base::{NoMemory, Octets, decimal};
+use rv32_asm::AsmReason;
 use std::alloc::Global;
 use topology_file::{Entry, TopoReason};
 
@@ -63,6 +64,19 @@ pub fn not_built_line(alloc: Global, component: u32) -> Result<Octets, NoMemory>
     let mut line = Octets::new(alloc);
     line.append(b"cosim: not built ")?;
     name_entry(Entry::Component(component), &mut line)?;
+    line.append(b"\n")?;
+    Ok(line)
+}
+
+/// About a line of an assembler's source.
+pub fn asm_line(alloc: Global, number: u64, reason: AsmReason) -> Result<Octets, NoMemory>
+    ensures { IfOk result (λ line. line ≡ asm_line number reason) }
+{
+    let mut line = Octets::new(alloc);
+    line.append(b"cosim: asm ")?;
+    decimal(number, &mut line)?;
+    line.append(b" ")?;
+    line.append(reason.text())?;
     line.append(b"\n")?;
     Ok(line)
 }

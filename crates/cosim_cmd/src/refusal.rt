@@ -13,6 +13,8 @@ pub enum Refusal {
     Topology(Octets),
     /// The topology has a component that can't be served yet.
     NotBuilt(Octets),
+    /// The source can't be assembled.
+    Asm(Octets),
     /// The output can't be written.
     Out,
 }

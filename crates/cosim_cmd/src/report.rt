@@ -25,8 +25,9 @@ impl Refusal {
             Refusal::Usage => 2,
             Refusal::File(_) => 3,
             Refusal::Topology(_) => 4,
-            Refusal::NotBuilt(_) => 20,
             Refusal::Out => 9,
+            Refusal::Asm(_) => 11,
+            Refusal::NotBuilt(_) => 20,
         }
     }
 
@@ -37,8 +38,10 @@ impl Refusal {
         match self {
             Refusal::NoMemory => b"cosim: no memory\n",
             Refusal::Usage => b"cosim: usage\n",
-            Refusal::File(line) | Refusal::Topology(line) | Refusal::NotBuilt(line) =>
-                line.as_slice(),
+            Refusal::File(line)
+            | Refusal::Topology(line)
+            | Refusal::NotBuilt(line)
+            | Refusal::Asm(line) => line.as_slice(),
             Refusal::Out => b"cosim: out\n",
         }
     }

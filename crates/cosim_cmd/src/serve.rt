@@ -1,15 +1,15 @@
 //! The devices of a topology.
 ghost use Rattle.std.specs.Prelude.{◌≡◌, ◌≤◌, All, IfOk, IfErr, None, OnOk, length};
-ghost use Rattle.device_api.specs.Beacon.{IsSettledBeacon};
+ghost use Rattle.cosim_cmd.specs.AnyDevice.{IsSettledDevice};
 ghost use Rattle.cosim_cmd.specs.Served.{starts_of, unserved_from};
 ghost use Rattle.cosim_cmd.specs.StartBads.{IsUnserved};
 ghost use Rattle.topology_file.specs.Ports.{names_of};
 
+use crate::any_device::AnyDevice;
 use cs_base::{Name, NoMemory};
-use device_api::Beacon;
 use std::alloc::Global;
 use thiserror::Error;
-use topology_file::{Component, Config};
+use topology_file::Component;
 
 /// Why the components of a topology can't be started.
 #[derive(Clone, Copy, Debug, PartialEq, Eq, Error)]
@@ -31,27 +31,22 @@ impl From<NoMemory> for StartBad {
     }
 }
 
-/// The beacons of a topology at their start, in the order of its components.
-pub fn start_all(alloc: Global, components: &[Component]) -> Result<Vec<Beacon>, StartBad>
+/// The devices of a topology at their start, in the order of its components.
+pub fn start_all(alloc: Global, components: &[Component]) -> Result<Vec<AnyDevice>, StartBad>
     requires { length components.now ≤ 64 }
-    ensures starts { IfOk result (λ beacons. beacons.items ≡ starts_of components.now) }
-    ensures at_start { IfOk result (λ beacons. All (λ beacon. IsSettledBeacon beacon 0) beacons.items) }
+    ensures starts { IfOk result (λ devices. devices.items ≡ starts_of components.now) }
+    ensures at_start { IfOk result (λ devices. All (λ device. IsSettledDevice device 0) devices.items) }
     ensures served { OnOk result (unserved_from 0 components.now ≡ None) }
     ensures not_built { IfErr result (IsUnserved components.now) }
 {
-    let mut beacons = Vec::new(alloc);
+    let mut devices = Vec::new(alloc);
     for (number, component) in components.iter().enumerate() {
-        match &component.config {
-            Config::Beacon(config) => {
-                let beacon = Beacon::start(alloc, config)?;
-                beacons.push(beacon).map_err(|_| NoMemory)?;
-            }
-            Config::Switch(_) | Config::Memory(_) | Config::Host(_) | Config::Nic(_) => {
-                return Err(StartBad::NotBuilt(number as u32));
-            }
-        }
+        let Some(device) = AnyDevice::start(alloc, &component.config)? else {
+            return Err(StartBad::NotBuilt(number as u32));
+        };
+        devices.push(device).map_err(|_| NoMemory)?;
     }
-    Ok(beacons)
+    Ok(devices)
 }
 
 /// The names of a topology's components, in order.

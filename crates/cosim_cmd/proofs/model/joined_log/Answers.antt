@@ -1,7 +1,8 @@
 use Rattle.std.proofs.Common.{ℕ, ◌≡◌, List, length, ap, sym, subst, ◌∙◌}
 use Rattle.std.proofs.lemmas.List.{length-map}
 use Rattle.std.specs.Prelude.{map}
-use Rattle.device_api.specs.Beacon.{BeaconState, beacon}
+use Rattle.cosim_cmd.specs.declared.any_device.AnyDevice.{AnyDevice}
+use Rattle.cosim_cmd.specs.AnyDevice.{any_device}
 use Rattle.device_api.specs.World.{global_until, logs_of}
 use Rattle.device_api.specs.Joined.{joined_until}
 use Rattle.device_api.specs.declared.logs.Line.{Line}
@@ -16,7 +17,7 @@ use Rattle.cosim_cmd.proofs.model.joined_log.Goals as goal
 pub simulate-requires-clause-matches : goal.simulate-requires-clause-matches
 simulate-requires-clause-matches c =
     let t = c.args.topology.now in
-    ap (map beacon.ports) c.requires.starts ∙ ports-starts_of 0 t.components c.requires.served ∙ sym t.valid.kinds_of_ports
+    ap (map any_device.ports) c.requires.starts ∙ ports-starts_of 0 t.components c.requires.served ∙ sym t.valid.kinds_of_ports
 
 pub join-requires : goal.join-requires
 join-requires c =
@@ -24,7 +25,7 @@ join-requires c =
     let names : length c.as_slice-2.result.now ≡ length t.components =
     ap length c.as_slice-2.ensures.value ∙ ap length c.in_ok-names.ensures ∙ ap (λ (components : List Component). length (names_of components)) c.as_slice.ensures ∙ length-map t.components (λ (component : Component). component.name) in
     let net = network_of t in
-    let lists : c.in_ok-logs.logs.lists ≡ logs_of (global_until net t.wiring.end) = c.in_ok-logs.ensures ∙ ap (λ (starts : List BeaconState). logs_of (global_until (record net { starts = starts }) t.wiring.end)) c.requires.starts in
+    let lists : c.in_ok-logs.logs.lists ≡ logs_of (global_until net t.wiring.end) = c.in_ok-logs.ensures ∙ ap (λ (starts : List AnyDevice). logs_of (global_until (record net { starts = starts }) t.wiring.end)) c.requires.starts in
     names ∙ sym (length-starts_of t.components c.requires.served) ∙ sym (length-logs_of net t.wiring.end) ∙ sym (ap length lists)
 
 pub returns : goal.returns
@@ -32,7 +33,7 @@ returns c =
     let t = c.args.topology.now in
     let end = t.wiring.end in
     let net = network_of t in
-    let lists : c.in_ok-logs.logs.lists ≡ logs_of (global_until net end) = c.in_ok-logs.ensures ∙ ap (λ (starts : List BeaconState). logs_of (global_until (record net { starts = starts }) end)) c.requires.starts in
+    let lists : c.in_ok-logs.logs.lists ≡ logs_of (global_until net end) = c.in_ok-logs.ensures ∙ ap (λ (starts : List AnyDevice). logs_of (global_until (record net { starts = starts }) end)) c.requires.starts in
     let names : c.as_slice-2.result.now ≡ names_of t.components = c.as_slice-2.ensures.value ∙ c.in_ok-names.ensures ∙ ap names_of c.as_slice.ensures in
     let before : AreBefore end c.in_ok-logs.logs.lists = subst (λ (logs : List (List Line)). AreBefore end logs) (sym lists) (logs_of-before net end) in
     c.in_ok-text.ensures end before ∙ ap (λ (names : List (List ℕ)). joined_until end names c.in_ok-logs.logs.lists) names ∙ ap (joined_until end (names_of t.components)) lists

@@ -1,4 +1,4 @@
-use Rattle.std.proofs.Common.{◌≡◌, ◌≤◌, ◌+◌, ◌-◌, length, take, drop, ap, arith, length-drop}
+use Rattle.std.proofs.Common.{length, ap, arith, length-drop}
 use Rattle.cosim_cmd.proofs.Cuts.{Appends-more, take_rest}
 use Rattle.cosim_cmd.proofs.write.write_all.Goals as goal
 

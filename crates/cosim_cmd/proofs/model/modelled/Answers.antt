@@ -2,7 +2,7 @@ use Rattle.std.proofs.Common.{ap, sym, subst, ◌∙◌}
 use Rattle.cosim_cmd.specs.Served.{unserved_from}
 use Rattle.cosim_cmd.specs.StartBads.{IsUnserved}
 use Rattle.cosim_cmd.specs.declared.serve.StartBad.{StartBad}
-use Rattle.cosim_cmd.proofs.model.model.Goals as goal
+use Rattle.cosim_cmd.proofs.model.modelled.Goals as goal
 
 pub returns-in-Ok-clause-modelled : goal.returns-in-Ok-clause-modelled
 returns-in-Ok-clause-modelled c = record {

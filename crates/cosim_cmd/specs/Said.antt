@@ -1,0 +1,19 @@
+-- The sentence that was read, and how a command is described to `clap`.
+use Rattle.std.specs.Prelude.{true, codes}
+use Rattle.clap.specs.Walk.{Rule}
+use Rattle.clap.specs.Simple.{App, Shape, new_rule, new_app, with_rule, on_top}
+use Rattle.cosim_cmd.specs.Sentence.{Text, Sentence, Check, Model, Asm}
+use Rattle.cosim_cmd.specs.declared.words.Sentence.{Sentence as Read}
+use Rattle.cosim_cmd.specs.declared.words.Sentence.TheVariants as read
+
+abbrev pub said : Read → Sentence
+said (read.Check file) = Check file.now
+said (read.Model file) = Model file.now
+said (read.Asm file) = Asm file.now
+
+-- one required file, and no options; the words are those after the command's name
+abbrev pub file_rule : Rule
+file_rule = record (new_rule (codes "file")) { required = true }
+
+abbrev pub described : Text → App
+described name = with_rule (on_top (λ (s : Shape). record s { no_binary_name = true; disable_help_flag = true }) (new_app name)) file_rule
