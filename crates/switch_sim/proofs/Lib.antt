@@ -2,3 +2,8 @@ pub mod Received
 pub mod LeastTrees
 pub mod Chained
 pub mod Files
+pub mod Ascending
+pub mod Counted
+pub mod Alikes
+pub mod Standing
+pub mod Flooding

@@ -3,6 +3,8 @@ pub mod Filed
 pub mod LeastTree
 pub mod Table
 pub mod Switch
+pub mod Parts
+pub mod Alike
 pub mod TableLaws
 pub mod RoomLaws
 pub mod SwitchLaws

@@ -1,4 +1,5 @@
-ghost use Rattle.std.specs.Prelude.{◌≡◌, ◌≤◌, ◌+◌, ◌++◌, ◌∷◌, [], length, slice_range, OnOk, IfOk};
+ghost use Rattle.std.specs.Prelude.{◌≡◌, ◌≤◌, ◌+◌, ℕ, List, ◌++◌, ◌∷◌, [], length, slice_range, OnOk, IfOk, MatchOption};
+ghost use Rattle.sb_message.specs.declared.message.Body.TheVariants.{Eth};
 ghost use Rattle.switch_sim.specs.Switch.{flood, flood_by, sends_of, line_of, news_line, news_lines};
 
 use cs_base::items::Octets;
@@ -47,9 +48,28 @@ fn flood_by(message: &EthMsg, arrival: u32, port: u32, out: &mut Effects) -> Res
     out.send(port, Body::Eth(message.copy()?))
 }
 
-/// Sends a frame by each of the ports but that of its arrival.
+/// The last port but that of an arrival; None where there is no other.
+#[tactic(auto, using(crate::proofs::Flooding::flood_none, crate::proofs::Flooding::flood_arrival, crate::proofs::Flooding::flood_other, crate::proofs::Flooding::flood_alone))]
+fn last_other(arrival: u32, ports: u32) -> Option<u32>
+    ensures { (frame : List ℕ) → MatchOption result (flood frame arrival ports ≡ []) (λ last. flood frame arrival ports ≡ flood frame arrival last ++ (last, Eth frame) ∷ []) }
+{
+    if ports == 0 || (ports == 1 && arrival == 0) {
+        None
+    } else if arrival == ports - 1 {
+        Some(ports - 2)
+    } else {
+        Some(ports - 1)
+    }
+}
+
+/// Sends copies of a frame by each of the ports below a number but that of its arrival.
 #[tactic(auto, unfolding(crate::specs::Switch::flood))]
-fn flood(message: &EthMsg, arrival: u32, ports: u32, out: &mut Effects) -> Result<(), NoMemory>
+fn flood_copies(
+    message: &EthMsg,
+    arrival: u32,
+    ports: u32,
+    out: &mut Effects,
+) -> Result<(), NoMemory>
     requires { out.old.sends ≡ [] }
     ensures sends { OnOk result (out.new.sends ≡ flood message.now arrival ports) }
     ensures lines { out.new.lines ≡ out.old.lines }
@@ -58,6 +78,21 @@ fn flood(message: &EthMsg, arrival: u32, ports: u32, out: &mut Effects) -> Resul
         flood_by(message, arrival, port, out)?;
     }
     Ok(())
+}
+
+/// Sends a frame by each of the ports but that of its arrival: copies, and the frame itself by the last one.
+fn flood(message: EthMsg, arrival: u32, ports: u32, out: &mut Effects) -> Result<(), NoMemory>
+    requires { out.old.sends ≡ [] }
+    ensures sends { OnOk result (out.new.sends ≡ flood message arrival ports) }
+    ensures lines { out.new.lines ≡ out.old.lines }
+{
+    match last_other(arrival, ports) {
+        None => Ok(()),
+        Some(last) => {
+            flood_copies(&message, arrival, last, out)?;
+            out.send(last, Body::Eth(message))
+        }
+    }
 }
 
 impl Relay {
@@ -75,7 +110,7 @@ impl Relay {
     {
         match self {
             Relay::Filter => Ok(()),
-            Relay::Flood => flood(&message, arrival, ports, out),
+            Relay::Flood => flood(message, arrival, ports, out),
             Relay::Forward(port) => out.send(port, Body::Eth(message)),
         }
     }

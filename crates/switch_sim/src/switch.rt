@@ -1,19 +1,26 @@
-ghost use Rattle.std.specs.Prelude.{◌≡◌, ◌+◌, ◌-◌, ◌<◌, ◌≤◌, [], ◌↔◌, ◌&&◌, not, count_by, nat_lt, true, Some, IfOk, OnOk, MatchOption};
+ghost use Rattle.std.specs.Prelude.{◌≡◌, ◌+◌, ◌-◌, ◌^◌, ◌<◌, ◌≤◌, ℕ, [], ◌↔◌, ◌&&◌, not, count_by, nat_lt, true, Some, Err, IfOk, IsOk, OnOk, MatchOption};
+ghost use Rattle.std.specs.List.Sorted.{IsPermutation};
+ghost use Rattle.cs_base.specs.declared.configs.SwitchConfig.{SwitchConfig};
+ghost use Rattle.device_api.specs.declared.parts_bad.PartsBad.TheVariants.{Invalid};
 ghost use Rattle.device_api.specs.Gives.{Gives};
 ghost use Rattle.switch_sim.specs.declared.entry.Entry.{Entry};
 ghost use Rattle.switch_sim.specs.Table.{started, is_live, is_of, lookup, place_for, may_learn, others_live, learn, is_news};
+ghost use Rattle.switch_sim.specs.Parts.{live_entries, Ascend, resumed, IsOf, StandsAt};
+ghost use Rattle.switch_sim.specs.Alike.{IsAlike};
 ghost use Rattle.cs_base.specs.Names.{is_individual};
 ghost use Rattle.switch_sim.specs.Switch.{is_reserved, relay, reaction_to, switch, IsSettledSwitch};
 
 use crate::entry::Entry;
+use crate::parts::SwitchParts;
 use crate::relay::{Relay, address_at, log_news};
 use crate::table::{PLACES, Table};
 use cs_base::configs::SwitchConfig;
+use cs_base::items::Items;
 use cs_base::mac::Mac;
 use cs_base::no_memory::NoMemory;
 use cs_base::port_kind::PortKind;
 use cs_base::time::Time;
-use device_api::{Device, Effects};
+use device_api::{Device, Effects, PartsBad};
 use eth_proto::EthMsg;
 use sb_message::Body;
 use std::alloc::Global;
@@ -46,11 +53,58 @@ impl Switch {
         })
     }
 
-    /// Whether an entry is live at a time: less than the age has passed since its station was seen.
-    fn is_live(&self, t: Time, entry: &Entry) -> bool
-        ensures { result ≡ is_live self.now t entry.now }
+    /// Keeps the switch as parts, as it stands before any event at `at` or later: the entries that are live then, in
+    /// ascending order of their addresses.
+    pub fn into_parts(self, alloc: Global, at: Time) -> Result<SwitchParts, NoMemory>
+        requires settled_then { IsSettledSwitch self at }
+        requires in_run { at ≤ 10 ^ 15 }
+        ensures live { IfOk result (λ parts. IsPermutation (live_entries self at) parts.entries) }
+        ensures ascending { IfOk result (λ parts. Ascend parts.entries) }
+        // With the configuration that the switch was started with, its parts are valid, and make a switch that answers
+        // alike from then on.
+        ensures valid { IfOk result (λ parts. (config : SwitchConfig) → IsOf config self → StandsAt at (resumed config parts)) }
+        ensures again { IfOk result (λ parts. (config : SwitchConfig) → IsOf config self → IsAlike at self (resumed config parts)) }
     {
-        t.0.saturating_sub(entry.seen.0) < self.config.age.0
+        let mut entries = self.live_entries(alloc, at)?;
+        entries.sort_by_key(|entry| entry.mac)?;
+        Ok(SwitchParts {
+            entries: Items::from_vec(entries),
+        })
+    }
+
+    /// The entries that are live at a time.
+    fn live_entries(&self, alloc: Global, at: Time) -> Result<Vec<Entry>, NoMemory>
+        ensures { IfOk result (λ entries. entries.items ≡ live_entries self.now at) }
+    {
+        let mut entries = Vec::new(alloc);
+        for entry in self.table.entries() {
+            if entry.is_live(at, self.config.age) {
+                entries.push(*entry)?;
+            }
+        }
+        Ok(entries)
+    }
+
+    /// The switch that the parts make, before any event at `at` or later. It takes all memory for its table here.
+    pub fn from_parts(
+        alloc: Global,
+        config: &SwitchConfig,
+        at: Time,
+        parts: SwitchParts,
+    ) -> Result<Switch, PartsBad>
+        requires { at ≤ 10 ^ 15 }
+        ensures state { IfOk result (λ switch. switch ≡ resumed config.now parts) }
+        ensures settled { IfOk result (λ switch. (x : ℕ) → at ≤ x → IsSettledSwitch switch x) }
+        ensures valid { IsOk result → StandsAt at (resumed config.now parts) }
+        ensures invalid { (result ≡ Err Invalid) ↔ (¬ StandsAt at (resumed config.now parts)) }
+    {
+        if !parts.is_valid(config, at) {
+            return Err(PartsBad::Invalid);
+        }
+        Ok(Switch {
+            config: *config,
+            table: Table::with_entries(alloc, parts.entries.as_slice())?,
+        })
     }
 
     /// The port of the station's live entry; None exactly where there is none.
@@ -60,7 +114,7 @@ impl Switch {
     {
         let place = self.table.place_of(to)?;
         let entry = &self.table.entries()[place];
-        if self.is_live(t, entry) {
+        if entry.is_live(t, self.config.age) {
             Some(entry.port)
         } else {
             None

@@ -64,6 +64,18 @@ impl Table {
         })
     }
 
+    /// A table of these entries, with all its room.
+    pub fn with_entries(alloc: Global, entries: &[Entry]) -> Result<Table, NoMemory>
+        requires { length entries.now ≤ 4096 }
+        ensures { IfOk result (λ table. table ≡ entries.now) }
+    {
+        let mut table = Table::new(alloc)?;
+        for entry in entries {
+            table.put(table.len(), *entry);
+        }
+        Ok(table)
+    }
+
     pub fn len(&self) -> usize
         ensures len { result ≡ length self.now }
         ensures few { result ≤ 4096 }

@@ -1,10 +1,10 @@
-//! The frames of a worked example, a full table, and that calls succeed.
+//! The frames of a worked example, a full table, which parts are refused, and that calls succeed.
 ghost use Rattle.std.specs.Prelude.{◌≡◌, ◌≤◌, ◌<◌, ◌+◌, ◌^◌, OnOk};
 ghost use Rattle.switch_sim.specs.Switch.{IsSettledSwitch};
 
-use crate::Switch;
-use cs_base::{Mac, Octets, SwitchConfig, Time, decimal};
-use device_api::{Device, Effects};
+use crate::{Entry, Switch, SwitchParts};
+use cs_base::{Items, Mac, Octets, SwitchConfig, Time, decimal};
+use device_api::{Device, Effects, PartsBad};
 use eth_proto::EthMsg;
 use sb_message::Body;
 use std::alloc::Global;
@@ -188,5 +188,147 @@ fn a_switch_may_have_no_port(rt: HostRuntime) -> Result<(), Fail> {
     let switch = Switch::start(rt.alloc(), &config)?;
     assert_eq!(rt; switch.ports(), 0);
     assert!(rt; switch.due().is_none());
+    Ok(())
+}
+
+const CONFIG: SwitchConfig = SwitchConfig {
+    ports: 2,
+    age: Time(1000),
+};
+
+#[test]
+fn parts_make_the_switch_again(rt: HostRuntime) -> Result<(), Fail> {
+    let mut switch = Switch::start(rt.alloc(), &CONFIG)?;
+    assert!(rt; learns(&mut switch, 0, 0, 0x0b, 0));
+    assert!(rt; learns(&mut switch, 1, 1, 0x0c, 0));
+    assert!(rt; learns(&mut switch, 2, 999, 0x0a, 1));
+    let parts = switch.into_parts(rt.alloc(), Time(1000))?;
+    let live = [
+        Entry {
+            mac: Mac(A),
+            port: 1,
+            seen: Time(999),
+        },
+        Entry {
+            mac: Mac(C),
+            port: 0,
+            seen: Time(1),
+        },
+    ];
+    assert_eq!(rt; parts.entries.as_slice(), live.as_slice());
+    let again = Switch::from_parts(rt.alloc(), &CONFIG, Time(1000), parts)?;
+    assert!(rt; again.lookup(Time(1000), Mac(A)) == Some(1));
+    assert!(rt; again.lookup(Time(1000), Mac(B)).is_none());
+    assert!(rt; again.lookup(Time(1000), Mac(C)) == Some(0));
+    assert!(rt; again.lookup(Time(1001), Mac(C)).is_none());
+    Ok(())
+}
+
+/// An entry beside that of station B, and whether the two may be the parts of a switch at a time.
+struct PartsCase {
+    mac: Mac,
+    port: u32,
+    seen: u64,
+    at: u64,
+    valid: bool,
+}
+
+const PARTS_CASES: [PartsCase; 9] = [
+    PartsCase {
+        mac: Mac(C),
+        port: 1,
+        seen: 999,
+        at: 1000,
+        valid: true,
+    },
+    PartsCase {
+        mac: Mac(C),
+        port: 1,
+        seen: 1,
+        at: 1000,
+        valid: true,
+    },
+    PartsCase {
+        mac: Mac(C),
+        port: 1,
+        seen: 0,
+        at: 1000,
+        valid: false,
+    },
+    PartsCase {
+        mac: Mac(C),
+        port: 1,
+        seen: 1000,
+        at: 1000,
+        valid: false,
+    },
+    PartsCase {
+        mac: Mac(C),
+        port: 2,
+        seen: 999,
+        at: 1000,
+        valid: false,
+    },
+    PartsCase {
+        mac: Mac(GROUP),
+        port: 1,
+        seen: 999,
+        at: 1000,
+        valid: false,
+    },
+    PartsCase {
+        mac: Mac(A),
+        port: 1,
+        seen: 999,
+        at: 1000,
+        valid: false,
+    },
+    PartsCase {
+        mac: Mac(B),
+        port: 1,
+        seen: 999,
+        at: 1000,
+        valid: false,
+    },
+    PartsCase {
+        mac: Mac(C),
+        port: 1,
+        seen: 1499,
+        at: 1500,
+        valid: false,
+    },
+];
+
+/// Whether the parts make a switch; None where they are refused otherwise than as invalid.
+fn is_made(alloc: Global, case: &PartsCase) -> Result<Option<bool>, Fail>
+    requires { case.now.at ≤ 10 ^ 15 }
+{
+    let mut entries = Items::new(alloc);
+    entries.push(Entry {
+        mac: Mac(B),
+        port: 0,
+        seen: Time(500),
+    })?;
+    entries.push(Entry {
+        mac: case.mac,
+        port: case.port,
+        seen: Time(case.seen),
+    })?;
+    let made = Switch::from_parts(alloc, &CONFIG, Time(case.at), SwitchParts { entries });
+    Ok(match made {
+        Ok(_switch) => Some(true),
+        Err(PartsBad::Invalid) => Some(false),
+        Err(PartsBad::NoMemory) => None,
+    })
+}
+
+#[test]
+fn parts_are_live_entries_in_order(rt: HostRuntime) -> Result<(), Fail> {
+    for case in &PARTS_CASES {
+        if case.at <= 1_000_000_000_000_000 {
+            let made = is_made(rt.alloc(), case)?;
+            assert!(rt; made == Some(case.valid), "{} at {}", case.seen, case.at);
+        }
+    }
     Ok(())
 }

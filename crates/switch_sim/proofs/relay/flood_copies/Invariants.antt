@@ -1,6 +1,6 @@
 use Rattle.std.proofs.Common.{◌≡◌}
 use Rattle.switch_sim.specs.Switch.{flood}
-use Rattle.switch_sim.proofs.relay.flood.Given as goal
+use Rattle.switch_sim.proofs.relay.flood_copies.Given as goal
 
 -- the ports before this one are done
 abbrev pub invariant-loop-port : goal.invariant-loop-port
