@@ -34,11 +34,11 @@ LacksProgram (Check file) bytes line = Never line
 LacksProgram (Model file) bytes line = Never line
 LacksProgram (Asm file) bytes line = IsNoProgram bytes line
 
--- the bytes are a topology text, and each component of such a topology can be served
+-- the bytes are a topology text, each component of which can be served
 pub record IsServable (bytes : List ℕ) : Type 0 where
   pub topology : Topology
   pub spelled : IsTopologyText bytes topology
-  pub served : (t : Topology) → IsTopologyText bytes t → unserved_from 0 t.components ≡ None
+  pub served : unserved_from 0 topology.components ≡ None
 
 -- the bytes are what the command can take
 abbrev pub Accepts : Sentence → List ℕ → Type 0

@@ -95,6 +95,7 @@ fn run<F: Files, K: Sink>(
 /// `model` writes the joined log of the run, `asm` the bytes of an assembler's source.
 ///
 /// On each status but 0 and 9 nothing is written to `out`. A failing `err` leaves the status as it is.
+#[tactic(auto, using(crate::proofs::ServedAlike::has_devices))]
 pub fn cosim_local<F: Files, K: Sink, E: Sink>(
     alloc: Global,
     words: &[String],

@@ -1,4 +1,4 @@
-use Rattle.std.proofs.Common.{rules, ℕ, ◌≡◌, ◌+◌, ◌∷◌, ◌++◌, [], drop, Some}
+use Rattle.std.proofs.Common.{rules, ◌≡◌, ◌+◌, ◌∷◌, ◌++◌, [], drop, Some}
 use Rattle.std.proofs.Math.Seq.{drop-cons}
 use Rattle.cosim_cmd.proofs.Serving.{one_started, one_served, one_settled}
 use Rattle.cosim_cmd.specs.AnyDevice.{IsSettledDevice}
