@@ -4,4 +4,5 @@ pub mod NameBytes
 pub mod Names
 pub mod Outside
 pub mod Plan
+pub mod Queues
 pub mod Texts
