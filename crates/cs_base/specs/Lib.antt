@@ -1,4 +1,5 @@
 pub mod Configs
+pub mod Lines
 pub mod MemForms
 pub mod NameBytes
 pub mod Names

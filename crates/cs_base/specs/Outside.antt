@@ -1,7 +1,24 @@
 -- What files and sinks tell, and when they may fail.
-use Rattle.std.specs.Prelude.{ℕ, ◌≡◌, ◌<◌, ◌⊎◌, ◌+◌, nat_le, List, [], ◌∷◌, ◌++◌, take, if◌then◌else◌, Result, Ok, Err}
+use Rattle.std.specs.Prelude.{ℕ, ◌≡◌, ◌<◌, ◌⊎◌, ◌+◌, nat_le, List, [], ◌∷◌, ◌++◌, take, if◌then◌else◌, Option, IfSome, Result, Ok, Err}
 use Rattle.cs_base.specs.declared.files.FileBad.{FileBad}
 use Rattle.cs_base.specs.declared.files.FileBad.TheVariants as bad
+
+-- what files tell of themselves: what the file of a name holds, where that is told, the names asked for so far, where
+-- those are told, and the count of failed reads, which is always known
+pub record FilesSeen : Type 0 where
+  pub held : List ℕ → Option (List ℕ)
+  pub asked : Option (List (List ℕ))
+  pub faults : ℕ
+
+-- what a sink tells of itself: the bytes taken so far, where they are told, and the count of failed writes, which is
+-- always known
+pub record SinkSeen : Type 0 where
+  pub written : Option (List ℕ)
+  pub faults : ℕ
+
+-- the bytes are those that are told, where any are
+abbrev pub IsTold : Option (List ℕ) → List ℕ → Type 0
+IsTold told bytes = IfSome told (λ content. bytes ≡ content)
 
 -- a count of faults rose: it is greater than before, or stands at its last value
 abbrev pub Rose : ℕ → ℕ → Type 0

@@ -1,5 +1,5 @@
 -- How components are joined: ends, links, and what makes a plan of links a wiring.
-use Rattle.std.specs.Prelude.{ℕ, ◌≡◌, ◌+◌, ◌≤◌, ◌<◌, ◌^◌, Bool, ◌&&◌, ◌==◌, List, length, All, if◌then◌else◌, sum_by, slice_get, Option, option_and_then, option_map, is_some, true}
+use Rattle.std.specs.Prelude.{ℕ, ◌≡◌, ◌+◌, ◌≤◌, ◌<◌, ◌^◌, Bool, ◌&&◌, ◌==◌, List, length, All, if◌then◌else◌, sum_by, slice_get, Option, option_and_then, option_map, is_some, true, false}
 use Rattle.cs_base.specs.declared.port_kind.PortKind.{PortKind}
 use Rattle.cs_base.specs.declared.port_kind.PortKind.TheVariants.{Eth, PcieDev, PcieHost, MemDev, MemHost}
 use Rattle.cs_base.specs.declared.link.Link.{Link}
@@ -11,6 +11,15 @@ partner PcieDev = PcieHost
 partner PcieHost = PcieDev
 partner MemDev = MemHost
 partner MemHost = MemDev
+
+-- whether a link may join ports of these kinds: each is the other's partner
+abbrev pub joins : PortKind → PortKind → Bool
+joins Eth Eth = true
+joins PcieDev PcieHost = true
+joins PcieHost PcieDev = true
+joins MemDev MemHost = true
+joins MemHost MemDev = true
+joins _ _ = false
 
 -- one end of a link: a port of a component, both counted from 0
 pub record End : Type 0 where

@@ -1,5 +1,5 @@
-ghost use Rattle.std.specs.Prelude.{◌≡◌, ◌≤◌, ℕ, List, Option, IfOk, IfSome, option_map};
-ghost use Rattle.cs_base.specs.Outside.{Rose, asked_after};
+ghost use Rattle.std.specs.Prelude.{◌≡◌, ◌≤◌, IfOk, OnOk, option_map};
+ghost use Rattle.cs_base.specs.Outside.{FilesSeen, IsTold, Rose, asked_after};
 
 use crate::items::Octets;
 use crate::no_memory::NoMemory;
@@ -30,24 +30,20 @@ impl From<NoMemory> for FileBad {
 /// Files that are read whole by their names. What they hold and which names were asked for may be told to
 /// contracts or not; the real files tell nothing.
 pub trait Files {
-    /// What the file of a name holds, where it is told.
-    ghost content: { Self → List ℕ → Option (List ℕ) };
-
-    /// The names asked for so far, where they are told.
-    ghost asked: { Self → Option (List (List ℕ)) };
-
-    /// How many reads have failed.
-    ghost fault_count: { Self → ℕ };
+    /// What the files tell of themselves: what is held, what was asked for, how many reads failed.
+    ghost seen: { Self → FilesSeen };
 
     /// How many reads have failed; at 2^64 - 1 the count stands still. It never falls.
     fn faults(&self) -> u64
-        ensures { result ≡ fault_count self.now };
+        ensures { result ≡ (seen self.now).faults };
 
-    /// Reads the file of a name. `Failed` comes only where the count of faults rose.
+    /// Reads the file of a name. `Failed` comes only where the count of faults rose; where the file is read, the
+    /// count stays.
     fn read(&mut self, alloc: Global, name: &str) -> Result<Octets, FileBad>
-        ensures content { IfOk result (λ bytes. IfSome (content self.old name.now) (λ told. bytes ≡ told)) }
-        ensures unchanged { content self.new ≡ content self.old }
-        ensures asked { asked self.new ≡ option_map (asked_after result name.now) (asked self.old) }
-        ensures never_falls { fault_count self.old ≤ fault_count self.new }
-        ensures failed { result ≡ Err FileBad.Failed → Rose (fault_count self.old) (fault_count self.new) };
+        ensures content { IfOk result (IsTold ((seen self.old).held name.now)) }
+        ensures unchanged { (seen self.new).held ≡ (seen self.old).held }
+        ensures asked { (seen self.new).asked ≡ option_map (asked_after result name.now) (seen self.old).asked }
+        ensures never_falls { (seen self.old).faults ≤ (seen self.new).faults }
+        ensures no_fault { OnOk result ((seen self.new).faults ≡ (seen self.old).faults) }
+        ensures failed { result ≡ Err FileBad.Failed → Rose (seen self.old).faults (seen self.new).faults };
 }

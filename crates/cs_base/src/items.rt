@@ -139,6 +139,15 @@ impl<T> Items<T> {
 }
 
 impl Items<u8> {
+    /// A copy of these bytes.
+    pub fn from_slice(alloc: Global, bytes: &[u8]) -> Result<Octets, NoMemory>
+        ensures { IfOk result (λ octets. octets ≡ bytes.now) }
+    {
+        Ok(Items {
+            items: Vec::from_slice(alloc, bytes)?,
+        })
+    }
+
     /// Appends bytes at the end. Where memory is wanting, the list stays as it was.
     pub fn append(&mut self, bytes: &[u8]) -> Result<(), NoMemory>
         ensures ok { OnOk result (self.new ≡ self.old ++ bytes.now) }
@@ -152,8 +161,6 @@ impl Items<u8> {
     pub fn copy(&self) -> Result<Octets, NoMemory>
         ensures { IfOk result (λ copied. copied ≡ self.now) }
     {
-        Ok(Items {
-            items: Vec::from_slice(self.alloc(), self.items.as_slice())?,
-        })
+        Items::from_slice(self.alloc(), self.items.as_slice())
     }
 }

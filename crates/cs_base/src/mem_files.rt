@@ -1,6 +1,6 @@
-ghost use Rattle.std.specs.Prelude.{◌≡◌, ◌≤◌, ◌+◌, ◌∷◌, [], ℕ, Some, IfOk, IfSome, option_map, option_copied, nat_le, Contains, IsTrue, ◌↔◌};
-ghost use Rattle.cs_base.specs.Outside.{one_more};
-ghost use Rattle.cs_base.specs.MemForms.{file_of, content_of};
+ghost use Rattle.std.specs.Prelude.{◌≡◌, ◌≤◌, [], Some, None, IfOk, OnOk, option_map, option_copied};
+ghost use Rattle.cs_base.specs.Outside.{FilesSeen, IsTold, Rose, asked_after, one_more};
+ghost use Rattle.cs_base.specs.MemForms.{FilesInMemory, is_among, file_of, files_seen, read_gives, after_read};
 
 use crate::files::{FileBad, Files};
 use crate::items::{Items, Octets};
@@ -53,9 +53,9 @@ impl MemFiles {
 
 /// Whether a number is among others.
 pub(crate) fn is_among(numbers: &[u64], number: u64) -> bool
-    ensures { IsTrue result ↔ Contains numbers.now number }
+    ensures { result ≡ is_among numbers.now number }
 {
-    numbers.contains(&number)
+    numbers.iter().any(|other| *other == number)
 }
 
 /// One more, but never past the last value of a counter.
@@ -73,9 +73,11 @@ fn file_of<'a>(files: &'a [MemFile], name: &str) -> Option<&'a MemFile>
 }
 
 impl MemFiles {
+    ghost use Rattle.cs_base.specs.MemForms.{read_gives};
+
     /// What this read gives: None where it fails.
     fn found(&self, name: &str) -> Result<Option<Octets>, NoMemory>
-        ensures { IfOk result (λ found. IfSome found (λ bytes. content_of self.now.files name.now ≡ Some bytes)) }
+        ensures { IfOk result (λ found. found ≡ read_gives self.now name.now) }
     {
         if is_among(self.failing.as_slice(), self.reads) {
             return Ok(None);
@@ -88,17 +90,31 @@ impl MemFiles {
 }
 
 impl Files for MemFiles {
-    ghost content = { λ m name. content_of m.files name };
+    ghost use Rattle.std.specs.Prelude.{◌≡◌, ◌≤◌, Some, None, IfOk, OnOk, option_map};
+    ghost use Rattle.cs_base.specs.Outside.{FilesSeen, IsTold, Rose, asked_after, one_more};
+    ghost use Rattle.cs_base.specs.MemForms.{files_seen, read_gives, after_read};
 
-    ghost asked = { λ m. Some m.asked };
-
-    ghost fault_count = { λ m. m.faults };
+    ghost seen = { files_seen };
 
     fn faults(&self) -> u64 {
         self.faults
     }
 
-    fn read(&mut self, alloc: Global, name: &str) -> Result<Octets, FileBad> {
+    /// Which reads fail, what they give and what the files are after them is exact, but for want of memory, which
+    /// leaves them as they were.
+    fn read(&mut self, alloc: Global, name: &str) -> Result<Octets, FileBad>
+        ensures content { IfOk result (IsTold ((files_seen self.old).held name.now)) }
+        ensures unchanged { (files_seen self.new).held ≡ (files_seen self.old).held }
+        ensures asked { (files_seen self.new).asked ≡ option_map (asked_after result name.now) (files_seen self.old).asked }
+        ensures never_falls { (files_seen self.old).faults ≤ (files_seen self.new).faults }
+        ensures no_fault { OnOk result ((files_seen self.new).faults ≡ (files_seen self.old).faults) }
+        ensures failed { result ≡ Err FileBad.Failed → Rose (files_seen self.old).faults (files_seen self.new).faults }
+        ensures gives { IfOk result (λ bytes. read_gives self.old name.now ≡ Some bytes) }
+        ensures gives_none { result ≡ Err FileBad.Failed → read_gives self.old name.now ≡ None }
+        ensures after { OnOk result (self.new ≡ after_read self.old name.now self.old.faults) }
+        ensures after_failed { result ≡ Err FileBad.Failed → self.new ≡ after_read self.old name.now (one_more self.old.faults) }
+        ensures no_memory { result ≡ Err FileBad.NoMemory → self.new ≡ self.old }
+    {
         let found = self.found(name)?;
         self.asked.push(Text::new(alloc, name)?)?;
         self.reads = one_more(self.reads);

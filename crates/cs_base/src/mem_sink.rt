@@ -1,4 +1,6 @@
-ghost use Rattle.std.specs.Prelude.{◌≡◌, ◌≤◌, [], Some};
+ghost use Rattle.std.specs.Prelude.{◌≡◌, ◌≤◌, ◌<◌, [], length, true, IsErr, IfOk, OnOk, OnErr, option_map};
+ghost use Rattle.cs_base.specs.Outside.{SinkSeen, Rose, written_after};
+ghost use Rattle.cs_base.specs.MemForms.{is_among, count_taken, sink_seen, after_write, after_failed_write};
 
 use crate::items::{Items, Octets};
 use crate::mem_files::{is_among, one_more};
@@ -56,15 +58,31 @@ impl MemSink {
 }
 
 impl Sink for MemSink {
-    ghost written = { λ s. Some s.written };
+    ghost use Rattle.cs_base.specs.MemForms.{sink_seen};
 
-    ghost fault_count = { λ s. s.faults };
+    ghost seen = { sink_seen };
 
     fn faults(&self) -> u64 {
         self.faults
     }
 
-    fn write(&mut self, bytes: &[u8]) -> Result<usize, Failed> {
+    /// What a write takes, what the sink is after it, and that a write of a stated number fails is exact. A write
+    /// that finds no memory fails too.
+    fn write(&mut self, bytes: &[u8]) -> Result<usize, Failed>
+        requires { 0 < length bytes.now }
+        ensures some { IfOk result (λ n. 1 ≤ n) }
+        ensures within { IfOk result (λ n. n ≤ length bytes.now) }
+        ensures taken { IfOk result (λ n. (sink_seen self.new).written
+            ≡ option_map (written_after n bytes.now) (sink_seen self.old).written) }
+        ensures refused { OnErr result ((sink_seen self.new).written ≡ (sink_seen self.old).written) }
+        ensures never_falls { (sink_seen self.old).faults ≤ (sink_seen self.new).faults }
+        ensures no_fault { OnOk result ((sink_seen self.new).faults ≡ (sink_seen self.old).faults) }
+        ensures failed { OnErr result (Rose (sink_seen self.old).faults (sink_seen self.new).faults) }
+        ensures stated { is_among self.old.failing self.old.writes ≡ true → IsErr result }
+        ensures count { IfOk result (λ n. n ≡ count_taken self.old bytes.now) }
+        ensures after { OnOk result (self.new ≡ after_write self.old bytes.now) }
+        ensures after_failed { OnErr result (self.new ≡ after_failed_write self.old) }
+    {
         let number = self.writes;
         self.writes = one_more(number);
         let count = bytes.len().min(self.most);

@@ -2,9 +2,8 @@ ghost use Rattle.std.specs.Prelude.{◌≡◌, ◌↔◌, IsSome, IfSome, true};
 ghost use Rattle.std.specs.List.{list_all};
 ghost use Rattle.cs_base.specs.Names.{is_name, is_name_byte};
 
+use crate::limits::LONGEST_NAME;
 use std::marker::Model;
-
-const LONGEST: usize = 16;
 
 /// The name of a component: 1 to 16 bytes of `a` to `z`, `0` to `9` and `_`.
 #[derive(Clone, Copy, Debug, PartialEq, Eq, PartialOrd, Ord, Hash)]
@@ -46,7 +45,7 @@ fn are_name_bytes(bytes: &[u8]) -> bool
 fn is_name(bytes: &[u8]) -> bool
     ensures { result ≡ is_name bytes.now }
 {
-    1 <= bytes.len() && bytes.len() <= LONGEST && are_name_bytes(bytes)
+    1 <= bytes.len() && bytes.len() <= LONGEST_NAME && are_name_bytes(bytes)
 }
 
 impl Name {
@@ -58,7 +57,7 @@ impl Name {
         if !is_name(bytes) {
             return None;
         }
-        let mut stored = [0; LONGEST];
+        let mut stored = [0; LONGEST_NAME];
         stored[..bytes.len()].copy_from_slice(bytes);
         Some(Name {
             bytes: stored,

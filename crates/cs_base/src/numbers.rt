@@ -1,6 +1,6 @@
-ghost use Rattle.std.specs.Prelude.{◌≡◌, ◌<◌, ◌++◌, OnOk, OnErr, false, decimal};
+ghost use Rattle.std.specs.Prelude.{◌≡◌, ◌<◌, ◌++◌, OnOk, OnErr, IfSome, false, decimal};
 ghost use Rattle.std.specs.Fmt.{digit_glyph};
-ghost use Rattle.cs_base.specs.Texts.{hexadecimal, mac_text};
+ghost use Rattle.cs_base.specs.Texts.{hexadecimal, mac_text, decimal_value, hexadecimal_value};
 
 use crate::items::Octets;
 use crate::mac::Mac;
@@ -68,4 +68,28 @@ pub fn mac_text(mac: Mac, out: &mut Octets) -> Result<(), NoMemory>
     ensures err { OnErr result (out.new ≡ out.old) }
 {
     out.append(&mac_bytes(mac))
+}
+
+/// What a decimal digit is worth: `0` to `9`.
+pub fn decimal_value(byte: u8) -> Option<u8>
+    ensures value { result ≡ decimal_value byte }
+    ensures small { IfSome result (λ value. value < 10) }
+{
+    match byte {
+        b'0'..=b'9' => Some(byte - b'0'),
+        _ => None,
+    }
+}
+
+/// What a digit of base sixteen is worth: `0` to `9`, `a` to `f`, `A` to `F`.
+pub fn hexadecimal_value(byte: u8) -> Option<u8>
+    ensures value { result ≡ hexadecimal_value byte }
+    ensures small { IfSome result (λ value. value < 16) }
+{
+    match byte {
+        b'0'..=b'9' => Some(byte - b'0'),
+        b'a'..=b'f' => Some(byte - b'a' + 10),
+        b'A'..=b'F' => Some(byte - b'A' + 10),
+        _ => None,
+    }
 }

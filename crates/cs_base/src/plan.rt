@@ -3,25 +3,16 @@ ghost use Rattle.cs_base.specs.Plan.{IsWithinLimits, JoinsKinds, Joins, IsSized,
 ghost use Rattle.cs_base.specs.declared.port_kind.PortKind.{PortKind};
 
 use crate::items::Items;
+use crate::limits::{
+    LATEST_END, LONGEST_LATENCY, MOST_COMPONENTS, MOST_LINKS, MOST_PORTS, MOST_SLOTS,
+};
 use crate::link::Link;
 use crate::port_kind::PortKind;
 use crate::time::Time;
 use crate::wiring::Wiring;
 
-const LONGEST_RUN: u64 = 1_000_000_000_000_000;
-
-const LONGEST_LATENCY: u64 = 1_000_000_000_000;
-
-const MOST_COMPONENTS: usize = 64;
-
-const MOST_PORTS: usize = 32;
-
-const MOST_LINKS: usize = 1024;
-
-const MOST_SLOTS: u32 = 1024;
-
-/// The kind of a port; None where there is no such port.
-fn kind_at(kinds: &[Items<PortKind>], component: u32, port: u32) -> Option<PortKind>
+/// The kind of a port, components and ports counted from 0; None where there is no such port.
+pub fn kind_at(kinds: &[Items<PortKind>], component: u32, port: u32) -> Option<PortKind>
     ensures { result ≡ kind_at kinds.now (record { component = component; port = port }) }
 {
     let ports = kinds.get(component as usize)?;
@@ -35,7 +26,7 @@ fn joins_kinds(kinds: &[Items<PortKind>], link: &Link) -> bool
         kind_at(kinds, link.a, link.a_port),
         kind_at(kinds, link.b, link.b_port),
     ) {
-        (Some(a), Some(b)) => a.partner() == b,
+        (Some(a), Some(b)) => a.joins(b),
         _ => false,
     }
 }
@@ -118,7 +109,7 @@ fn is_sized(end: Time, kinds: &[Items<PortKind>], links: &[Link]) -> bool
 {
     let end = end.picoseconds();
     1 <= end
-        && end <= LONGEST_RUN
+        && end <= LATEST_END
         && 1 <= kinds.len()
         && kinds.len() <= MOST_COMPONENTS
         && links.len() <= MOST_LINKS

@@ -1,4 +1,4 @@
-ghost use Rattle.std.specs.Prelude.{◌≡◌};
+ghost use Rattle.std.specs.Prelude.{◌≡◌, ◌↔◌, IsTrue};
 
 /// What a port speaks, and at which side of its link it stands.
 #[derive(Clone, Copy, Debug, PartialEq, Eq, PartialOrd, Ord, Hash)]
@@ -16,7 +16,7 @@ pub enum PortKind {
 }
 
 impl PortKind {
-    ghost use Rattle.cs_base.specs.Plan.{partner};
+    ghost use Rattle.cs_base.specs.Plan.{partner, joins};
 
     /// The kind that the other end of a link has.
     pub fn partner(self) -> PortKind
@@ -29,6 +29,14 @@ impl PortKind {
             PortKind::MemDev => PortKind::MemHost,
             PortKind::MemHost => PortKind::MemDev,
         }
+    }
+
+    /// Whether a link may join a port of this kind to one of the other.
+    pub fn joins(self, other: PortKind) -> bool
+        ensures joins { result ≡ joins self other }
+        ensures partner { IsTrue result ↔ (other ≡ partner self) }
+    {
+        self.partner() == other
     }
 }
 

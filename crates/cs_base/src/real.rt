@@ -3,15 +3,13 @@ ghost use Rattle.std.specs.Prelude.{◌≡◌, None};
 
 use crate::files::{FileBad, Files};
 use crate::items::{Items, Octets};
+use crate::limits::LONGEST_FILE;
 use crate::mem_files::one_more;
 use crate::no_memory::Failed;
 use crate::sink::Sink;
 use std::alloc::Global;
 use std::io::{ErrorKind, Read, Write};
 use std::{fs, io};
-
-/// The longest file that is read.
-pub const LONGEST_FILE: u64 = 33_554_432;
 
 /// The files of the system. A file of more than 33,554,432 bytes counts as a fault.
 #[derive(Drop)]
@@ -35,11 +33,7 @@ fn read_start<R: std::rt::Files>(runtime: &R, alloc: Global, name: &str) -> io::
 }
 
 impl<R: std::rt::Files> Files for RealFiles<'_, R> {
-    ghost content = { λ _ _. None };
-
-    ghost asked = { λ _. None };
-
-    ghost fault_count = { λ f. f.faults };
+    ghost seen = { λ f. record { held = λ _. None; asked = None; faults = f.faults } };
 
     fn faults(&self) -> u64 {
         self.faults
@@ -70,9 +64,7 @@ impl<W: Write> RealSink<W> {
 }
 
 impl<W: Write> Sink for RealSink<W> {
-    ghost written = { λ _. None };
-
-    ghost fault_count = { λ s. s.faults };
+    ghost seen = { λ s. record { written = None; faults = s.faults } };
 
     fn faults(&self) -> u64 {
         self.faults

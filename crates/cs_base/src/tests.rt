@@ -7,12 +7,6 @@ use std::alloc::Global;
 use std::fs;
 use std::test::Fail;
 
-fn octets(alloc: Global, bytes: &[u8]) -> Result<Octets, Fail> {
-    let mut octets = Octets::new(alloc);
-    octets.append(bytes)?;
-    Ok(octets)
-}
-
 fn items<T: Copy>(alloc: Global, list: &[T]) -> Result<Items<T>, Fail> {
     Ok(Items::from_vec(Vec::from_slice(alloc, list)?))
 }
@@ -48,7 +42,7 @@ fn files_in_memory_fail_as_stated(rt: HostRuntime) -> Result<(), Fail> {
     let mut entries = Items::new(alloc);
     entries.push(MemFile {
         name: Text::new(alloc, "t1.toml")?,
-        content: octets(alloc, b"end = 1")?,
+        content: Octets::from_slice(alloc, b"end = 1")?,
     })?;
     let mut files = MemFiles::new(alloc, entries, items(alloc, &[1])?);
     assert_eq!(rt;
