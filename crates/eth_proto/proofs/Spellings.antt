@@ -1,13 +1,11 @@
 -- The one frame that bytes are.
-use Rattle.std.proofs.Common.{◌≡◌, ℕ, true, false, ltb, eqb, List, [], ◌∷◌, length, None, Result, Ok, Err, IfOk, MatchResult, refl, ap, sym, ◌∙◌, arith}
-use Rattle.std.specs.Prelude.{option_and_then}
-use Rattle.std.specs.Result.{result_err}
+use Rattle.std.proofs.Common.{◌≡◌, ℕ, true, false, ltb, eqb, List, [], ◌∷◌, length, None, Result, Ok, Err, IfOk, refl, ap, sym, ◌∙◌, arith}
 use Rattle.std.proofs.lemmas.Bool.{eq-eqb, le-ltb}
-use Rattle.field_layout.specs.Layout.{number_in, is_zero_elsewhere}
+use Rattle.field_layout.specs.Layout.{number_in, is_zero_elsewhere, fault_named}
 use Rattle.field_layout.proofs.Layouts.{number_in-2}
 use Rattle.eth_proto.specs.declared.eth_bad.EthBad.{EthBad}
 use Rattle.eth_proto.specs.declared.eth_bad.EthBad.TheVariants.{UnknownType, TooShort, TooLong, LengthDiffers, FieldNotZero, NoMemory}
-use Rattle.eth_proto.specs.Spelling.{IsSpelled, length_field, refusal, fault_of}
+use Rattle.eth_proto.specs.Spelling.{IsSpelled, ReadsSpelled, length_field, refusal, fault_of}
 
 pub no_fault : (frame : List ℕ) (ty : ℕ) (fields payload : List ℕ) → IsSpelled frame ty fields payload → refusal ty fields payload ≡ None
 no_fault frame ty fields payload x =
@@ -28,6 +26,6 @@ no_memory LengthDiffers none = absurd cc
 no_memory FieldNotZero none = absurd cc
 
 -- what is read so and refused so is what the bytes are, unless memory runs out
-pub only_from : (r : Result (List ℕ) EthBad) (ty : ℕ) (fields payload : List ℕ) → IfOk r (λ message. IsSpelled message ty fields payload) → option_and_then fault_of (result_err r) ≡ refusal ty fields payload → (frame : List ℕ) → IsSpelled frame ty fields payload → MatchResult r (λ message. message ≡ frame) (λ bad. bad ≡ NoMemory)
+pub only_from : (r : Result (List ℕ) EthBad) (ty : ℕ) (fields payload : List ℕ) → IfOk r (λ message. IsSpelled message ty fields payload) → fault_named fault_of r ≡ refusal ty fields payload → ReadsSpelled r ty fields payload
 only_from (Ok message) ty fields payload found refused frame x = sym found.whole ∙ x.whole
 only_from (Err bad) ty fields payload found refused frame x = no_memory bad (refused ∙ no_fault frame ty fields payload x)

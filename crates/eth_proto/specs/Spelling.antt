@@ -1,5 +1,5 @@
 -- The bytes of an Ethernet frame as a message, and why bytes are none.
-use Rattle.std.specs.Prelude.{ℕ, ◌≡◌, Bool, not, ◌==◌, nat_lt, List, [], ◌∷◌, length, Option, Some, None}
+use Rattle.std.specs.Prelude.{ℕ, ◌≡◌, Bool, not, ◌==◌, nat_lt, List, [], ◌∷◌, length, Option, Some, None, Result, MatchResult}
 use Rattle.field_layout.specs.Layout.{Field, Entry, field_at, entry, number_in, is_zero_elsewhere, IsLaidOut, first_fault}
 use Rattle.eth_proto.specs.Frame.{IsFrame}
 use Rattle.eth_proto.specs.declared.eth_bad.EthBad.{EthBad}
@@ -41,3 +41,9 @@ fault_of TooShort = Some TooShort
 fault_of TooLong = Some TooLong
 fault_of LengthDiffers = Some LengthDiffers
 fault_of FieldNotZero = Some FieldNotZero
+
+-- where the bytes are a frame, that one is read, or memory is wanting
+abbrev pub ReadsSpelled : Result (List ℕ) EthBad → ℕ → List ℕ → List ℕ → Type 0
+ReadsSpelled r ty fields payload =
+    (frame : List ℕ) → IsSpelled frame ty fields payload
+    → MatchResult r (λ message. message ≡ frame) (λ bad. bad ≡ NoMemory)

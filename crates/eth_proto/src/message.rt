@@ -1,8 +1,7 @@
-ghost use Rattle.std.specs.Prelude.{◌≡◌, ◌↔◌, ◌≤◌, ℕ, List, length, IsSome, IfSome, IfOk, MatchResult, option_and_then};
-ghost use Rattle.std.specs.Result.{result_err};
-ghost use Rattle.field_layout.specs.Layout.{IsLaidOut};
+ghost use Rattle.std.specs.Prelude.{◌≡◌, ◌↔◌, ◌≤◌, ℕ, List, length, IsSome, IfSome, IfOk};
+ghost use Rattle.field_layout.specs.Layout.{IsLaidOut, fault_named};
 ghost use Rattle.eth_proto.specs.Frame.{IsFrame};
-ghost use Rattle.eth_proto.specs.Spelling.{IsSpelled, table_of, refusal, fault_of};
+ghost use Rattle.eth_proto.specs.Spelling.{IsSpelled, ReadsSpelled, table_of, refusal, fault_of};
 
 use crate::eth_bad::EthBad;
 use cs_base::items::Octets;
@@ -103,9 +102,9 @@ pub fn read(alloc: Global, ty: u8, fields: &[u8], payload: &[u8]) -> Result<EthM
     // What is read is spelled so.
     ensures found { IfOk result (λ message. IsSpelled message ty fields.now payload.now) }
     // What is spelled so is read, unless memory runs out.
-    ensures only { (frame : List ℕ) → IsSpelled frame ty fields.now payload.now → MatchResult result (λ message. message ≡ frame) (λ bad. bad ≡ EthBad.NoMemory) }
+    ensures only { ReadsSpelled result ty fields.now payload.now }
     // Each refusal comes exactly where it is the first fault, unless memory runs out.
-    ensures refused { option_and_then fault_of (result_err result) ≡ refusal ty fields.now payload.now }
+    ensures refused { fault_named fault_of result ≡ refusal ty fields.now payload.now }
 {
     parse(alloc, ty, fields, payload)
 }
@@ -113,7 +112,7 @@ pub fn read(alloc: Global, ty: u8, fields: &[u8], payload: &[u8]) -> Result<EthM
 fn parse(alloc: Global, ty: u8, fields: &[u8], payload: &[u8]) -> Result<EthMsg, EthBad>
     requires { length fields.now ≡ 48 }
     ensures found { IfOk result (λ message. IsSpelled message ty fields.now payload.now) }
-    ensures refused { option_and_then fault_of (result_err result) ≡ refusal ty fields.now payload.now }
+    ensures refused { fault_named fault_of result ≡ refusal ty fields.now payload.now }
 {
     if ty != TY {
         return Err(EthBad::UnknownType);

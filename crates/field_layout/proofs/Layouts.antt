@@ -192,3 +192,16 @@ same_from_ne a b is equal = (bytes_eq-Decides a b).0 (not-false _ (sym is ∙ eq
 
 pub differ_from_ne : (a b : List ℕ) {r : Bool} → r ≡ not (bytes_eq a b) → r ≡ true → b ≡ a → ⊥
 differ_from_ne a b is different same = false≢true (sym (not-true _ (sym is ∙ different)) ∙ (bytes_eq-Decides a b).1 (sym same))
+
+-- a byte that belongs to no field is the number 0
+byte_as_number : (bytes : List ℕ) (k : ℕ) → get_or bytes k 0 ≡ 0 → from_le_bytes w64 (take 1 (drop k bytes)) ≡ 0
+byte_as_number [] zero is = refl
+byte_as_number [] (suc k) is = refl
+byte_as_number (b ∷ bytes) zero is = omega (arith, is)
+byte_as_number (b ∷ bytes) (suc k) is = byte_as_number bytes k is
+
+pub number_at_zero : {size : ℕ} {table : List Entry} {bytes : List ℕ} → IsLaidOut size table bytes → (k : ℕ) → is_named (fields_of table) k ≡ false → number_in bytes (field_at k 1) ≡ 0
+unfolding number_in
+number_at_zero {size} {table} {bytes} laid k unnamed =
+    let one : k + 1 - k ≡ 1 = omega arith in
+    ap (λ n. from_le_bytes w64 (take n (drop k bytes))) one ∙ byte_as_number bytes k (zero_elsewhere_at (fields_of table) bytes k laid.others unnamed)

@@ -1,7 +1,8 @@
 -- Numbers at fixed places of a header, lowest byte first, with zeros at all other places.
-use Rattle.std.specs.Prelude.{ℕ, ◌≡◌, ◌+◌, ◌^◌, ◌<◌, Bool, true, false, ◌&&◌, ◌||◌, ◌==◌, nat_le, nat_lt, List, [], ◌∷◌, ◌++◌, map, length, take, drop, slice_range, if◌then◌else◌, Option, Some, None}
+use Rattle.std.specs.Prelude.{ℕ, ◌≡◌, ◌+◌, ◌^◌, ◌<◌, Bool, true, false, ◌&&◌, ◌||◌, ◌==◌, nat_le, nat_lt, List, [], ◌∷◌, ◌++◌, map, length, take, drop, slice_range, if◌then◌else◌, Option, Some, None, option_and_then, Result}
 use Rattle.std.specs.Int.{w64, from_le_bytes, bytes_low_first}
 use Rattle.std.specs.List.{AllByRecursion}
+use Rattle.std.specs.Result.{result_err}
 
 -- where a number stands: from this byte of the header on, so many bytes
 pub record Field : Type 0 where
@@ -75,3 +76,7 @@ overwritten bytes place new = take place bytes ++ (new ++ drop (place + length n
 abbrev pub first_fault : {E : Type 0} → List (Bool × E) → Option E
 first_fault [] = None
 first_fault (fault ∷ faults) = if fault.0 then Some fault.1 else first_fault faults
+
+-- the fault that a reading names by its refusal, if any: some refusals name none
+abbrev pub fault_named : {A E : Type 0} → (E → Option E) → Result A E → Option E
+fault_named fault_of r = option_and_then fault_of (result_err r)

@@ -39,7 +39,7 @@ same_kind : (a b : PortKind) → code_of a ≡ code_of b → a ≡ b
 same_kind a b same = sym (kind_with-code_of a) ∙ ap kind_with same ∙ kind_with-code_of b
 
 -- introductions with the same numbers are one
-same_intro : (a b : Intro) → a.version ≡ b.version → a.kind ≡ b.kind → a.latency ≡ b.latency → a.interval ≡ b.interval → a.bar_len ≡ b.bar_len → a ≡ b
+pub same_intro : (a b : Intro) → a.version ≡ b.version → a.kind ≡ b.kind → a.latency ≡ b.latency → a.interval ≡ b.interval → a.bar_len ≡ b.bar_len → a ≡ b
 same_intro a b version kind latency interval bar_len =
     let one_proof : (n : ℕ) → IsProp (n ≡ 1) = λ n. hlevel ℕ_set in
     λ i. record {

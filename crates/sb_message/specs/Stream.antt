@@ -11,6 +11,9 @@ use Rattle.sb_message.specs.Receivable.{receivable}
 abbrev pub is_intro : Body → Bool
 is_intro body.Sync = false
 is_intro (body.Intro intro) = true
+is_intro (body.Dev message) = false
+is_intro (body.Host message) = false
+is_intro (body.Mem message) = false
 is_intro (body.Eth frame) = false
 
 -- a stream to a port of this kind: the first message is an introduction and no later one is, all can be received there, and no timestamp is below the one before

@@ -1,6 +1,8 @@
 ghost use Rattle.std.specs.Prelude.{◌≡◌};
 
 use eth_proto::EthBad;
+use mem_proto::MemBad;
+use pcie_proto::PcieBad;
 use sb_intro::IntroBad;
 use thiserror::Error;
 
@@ -13,6 +15,12 @@ pub enum UpperBad {
     /// An introduction's fault.
     #[error("intro: {0}")]
     Intro(IntroBad),
+    /// The fault of a message of a PCIe link.
+    #[error("pcie: {0}")]
+    Pcie(PcieBad),
+    /// The fault of a message of a memory link.
+    #[error("mem: {0}")]
+    Mem(MemBad),
     /// An Ethernet frame's fault.
     #[error("eth: {0}")]
     Eth(EthBad),
@@ -61,6 +69,32 @@ impl From<EthBad> for MsgBad {
         match bad {
             EthBad::NoMemory => MsgBad::NoMemory,
             bad => MsgBad::Upper(UpperBad::Eth(bad)),
+        }
+    }
+}
+
+impl From<MemBad> for MsgBad {
+    ghost use Rattle.sb_message.specs.Refusals.{mem_refusal};
+
+    ghost from_gives = { λ mem_bad bad. bad ≡ mem_refusal mem_bad };
+
+    fn from(bad: MemBad) -> MsgBad {
+        match bad {
+            MemBad::NoMemory => MsgBad::NoMemory,
+            bad => MsgBad::Upper(UpperBad::Mem(bad)),
+        }
+    }
+}
+
+impl From<PcieBad> for MsgBad {
+    ghost use Rattle.sb_message.specs.Refusals.{pcie_refusal};
+
+    ghost from_gives = { λ pcie_bad bad. bad ≡ pcie_refusal pcie_bad };
+
+    fn from(bad: PcieBad) -> MsgBad {
+        match bad {
+            PcieBad::NoMemory => MsgBad::NoMemory,
+            bad => MsgBad::Upper(UpperBad::Pcie(bad)),
         }
     }
 }

@@ -1,7 +1,7 @@
-ghost use Rattle.std.specs.Prelude.{◌≡◌, ◌↔◌, IsTrue, length, IfOk, IfErr, MatchResult, option_and_then, option_map, true};
-ghost use Rattle.std.specs.Result.{result_err};
-ghost use Rattle.sb_message.specs.Spelling.{Spells, SpellsBody, is_type_of, is_known_type, body_refusal, refusal, fault_of, NamesFault};
-ghost use Rattle.sb_message.specs.declared.message.Msg.{Msg};
+ghost use Rattle.std.specs.Prelude.{◌≡◌, ◌↔◌, IsTrue, length, IfOk, IfErr, true};
+ghost use Rattle.field_layout.specs.Layout.{fault_named};
+ghost use Rattle.sb_message.specs.Spelling.{Spells, SpellsBody, ReadsSpelled, upper_refusal, refusal, fault_of, NamesFault};
+ghost use Rattle.sb_message.specs.Types.{is_type_of, is_event_type_of, is_known_type};
 
 use crate::message::{Body, Msg};
 use crate::msg_bad::{MsgBad, UpperBad};
@@ -18,9 +18,9 @@ pub fn decode(alloc: Global, kind: PortKind, bytes: &[u8]) -> Result<Msg, MsgBad
     // What is decoded is spelled so.
     ensures found { IfOk result (λ message. Spells kind message bytes.now) }
     // What is spelled so is decoded, unless memory runs out.
-    ensures only { (message : Msg) → Spells kind message bytes.now → MatchResult result (λ found. found ≡ message) (λ bad. bad ≡ MsgBad.NoMemory) }
+    ensures only { ReadsSpelled result kind bytes.now }
     // Each refusal comes exactly where it is the first fault, unless memory runs out.
-    ensures refused { option_and_then fault_of (result_err result) ≡ refusal kind bytes.now }
+    ensures refused { fault_named fault_of result ≡ refusal kind bytes.now }
     // The body was tried for its own type alone, and want of memory is a refusal of its own.
     ensures upper { IfErr result NamesFault }
 {
@@ -29,7 +29,7 @@ pub fn decode(alloc: Global, kind: PortKind, bytes: &[u8]) -> Result<Msg, MsgBad
 
 fn parse(alloc: Global, kind: PortKind, bytes: &[u8]) -> Result<Msg, MsgBad>
     ensures found { IfOk result (λ message. Spells kind message bytes.now) }
-    ensures refused { option_and_then fault_of (result_err result) ≡ refusal kind bytes.now }
+    ensures refused { fault_named fault_of result ≡ refusal kind bytes.now }
 {
     if bytes.len() < HEADER_BYTES {
         return Err(MsgBad::Short);
@@ -55,11 +55,24 @@ fn is_type_of(kind: PortKind, ty: u8) -> bool
 {
     match ty {
         0x00 | 0x01 => true,
-        0x70 => match kind {
-            PortKind::Eth => true,
-            PortKind::PcieDev | PortKind::PcieHost | PortKind::MemDev | PortKind::MemHost => false,
-        },
-        _ => false,
+        _ => is_event_type_of(kind, ty),
+    }
+}
+
+fn is_event_type_of(kind: PortKind, ty: u8) -> bool
+    ensures { result ≡ is_event_type_of kind ty }
+{
+    match ty {
+        0x40..=0x44 => matches!(kind, PortKind::PcieHost),
+        0x60..=0x63 => matches!(kind, PortKind::PcieDev),
+        0x50..=0x53 => {
+            if ty <= 0x51 {
+                matches!(kind, PortKind::MemDev)
+            } else {
+                matches!(kind, PortKind::MemHost)
+            }
+        }
+        _ => ty == 0x70 && matches!(kind, PortKind::Eth),
     }
 }
 
@@ -67,19 +80,37 @@ fn read_body(alloc: Global, ty: u8, fields: &[u8], payload: &[u8]) -> Result<Bod
     requires whole { length fields.now ≡ 48 }
     requires known { is_known_type ty ≡ true }
     ensures found { IfOk result (λ body. SpellsBody body ty fields.now payload.now) }
-    ensures refused { option_and_then fault_of (result_err result) ≡ option_map MsgBad.Upper (body_refusal ty fields.now payload.now) }
+    ensures refused { fault_named fault_of result ≡ upper_refusal ty fields.now payload.now }
 {
-    Ok(match ty {
-        0x00 => read_sync(fields, payload)?,
-        0x01 => Body::Intro(sb_intro::read(0x01, fields, payload)?),
-        _ => Body::Eth(eth_proto::read(alloc, 0x70, fields, payload)?),
-    })
+    match ty {
+        0x00 => read_sync(fields, payload),
+        0x01 => {
+            let intro = sb_intro::read(0x01, fields, payload)?;
+            Ok(Body::Intro(intro))
+        }
+        0x40..=0x44 => {
+            let message = pcie_proto::read_dev(alloc, ty, fields, payload)?;
+            Ok(Body::Dev(message))
+        }
+        0x60..=0x63 => {
+            let message = pcie_proto::read_host(alloc, ty, fields, payload)?;
+            Ok(Body::Host(message))
+        }
+        0x50..=0x53 => {
+            let message = mem_proto::read(alloc, ty, fields, payload)?;
+            Ok(Body::Mem(message))
+        }
+        _ => {
+            let message = eth_proto::read(alloc, 0x70, fields, payload)?;
+            Ok(Body::Eth(message))
+        }
+    }
 }
 
 fn read_sync(fields: &[u8], payload: &[u8]) -> Result<Body, MsgBad>
     requires { length fields.now ≡ 48 }
     ensures found { IfOk result (λ body. SpellsBody body 0 fields.now payload.now) }
-    ensures refused { option_and_then fault_of (result_err result) ≡ option_map MsgBad.Upper (body_refusal 0 fields.now payload.now) }
+    ensures refused { fault_named fault_of result ≡ upper_refusal 0 fields.now payload.now }
 {
     if fields != &[0; 48][..] || !payload.is_empty() {
         return Err(MsgBad::Upper(UpperBad::Sync));

@@ -3,6 +3,7 @@ ghost use Rattle.sb_message.specs.Receivable.{receivable, is_event};
 
 use crate::message::Body;
 use cs_base::port_kind::PortKind;
+use mem_proto::MemMsg;
 
 /// Whether a port of this kind may receive the body. What a kind may send is what its partner may receive.
 pub fn receivable(kind: PortKind, body: &Body) -> bool
@@ -10,10 +11,13 @@ pub fn receivable(kind: PortKind, body: &Body) -> bool
 {
     match body {
         Body::Sync | Body::Intro(_) => true,
-        Body::Eth(_) => match kind {
-            PortKind::Eth => true,
-            PortKind::PcieDev | PortKind::PcieHost | PortKind::MemDev | PortKind::MemHost => false,
+        Body::Dev(_) => matches!(kind, PortKind::PcieHost),
+        Body::Host(_) => matches!(kind, PortKind::PcieDev),
+        Body::Mem(message) => match message {
+            MemMsg::Read { .. } | MemMsg::Write { .. } => matches!(kind, PortKind::MemDev),
+            MemMsg::ReadDone { .. } | MemMsg::WriteDone { .. } => matches!(kind, PortKind::MemHost),
         },
+        Body::Eth(_) => matches!(kind, PortKind::Eth),
     }
 }
 
@@ -23,6 +27,6 @@ pub fn is_event(body: &Body) -> bool
 {
     match body {
         Body::Sync | Body::Intro(_) => false,
-        Body::Eth(_) => true,
+        Body::Dev(_) | Body::Host(_) | Body::Mem(_) | Body::Eth(_) => true,
     }
 }

@@ -28,6 +28,21 @@ fn parts_of(body: &Body) -> Parts<'_>
             fields: intro.fields(),
             payload: intro.payload(),
         },
+        Body::Dev(message) => Parts {
+            ty: message.ty(),
+            fields: message.fields(),
+            payload: message.payload(),
+        },
+        Body::Host(message) => Parts {
+            ty: message.ty(),
+            fields: message.fields(),
+            payload: message.payload(),
+        },
+        Body::Mem(message) => Parts {
+            ty: message.ty(),
+            fields: message.fields(),
+            payload: message.payload(),
+        },
         Body::Eth(message) => Parts {
             ty: message.ty(),
             fields: message.fields(),

@@ -6,7 +6,7 @@ use Rattle.std.proofs.lemmas.List.{length-take-le, take_rest}
 use Rattle.field_layout.proofs.Layouts.{same_from_ne, differ_from_ne}
 use Rattle.sb_message.specs.Spelling.{SpellsBody, body_refusal}
 use Rattle.sb_message.specs.declared.msg_bad.MsgBad.TheVariants.{Upper}
-use Rattle.sb_message.proofs.Spellings.{parsed, refusal-reserved, refusal-body}
+use Rattle.sb_message.proofs.Spellings.{known, parsed, refusal-reserved, refusal-body}
 use Rattle.sb_message.proofs.reading.parse.Goals as goal
 
 pub returns-then-ne-clause-refused : goal.returns-then-ne-clause-refused
@@ -18,6 +18,9 @@ returns-then-ne-clause-refused c =
 
 pub read_body-requires-clause-whole : goal.read_body-requires-clause-whole
 read_body-requires-clause-whole c = length-take-le 48 c.args.bytes.now (omega arith)
+
+pub read_body-requires-clause-known : goal.read_body-requires-clause-known
+read_body-requires-clause-known c = known c.args.kind (c.u8_at-last.result - 128) (sym c.is_type_of.ensures ∙ c.if-not-is_type_of.false)
 
 pub returns-in_err-body-clause-refused : goal.returns-in_err-body-clause-refused
 returns-in_err-body-clause-refused c =

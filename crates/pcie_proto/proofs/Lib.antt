@@ -1,0 +1,2 @@
+pub mod FromDevice
+pub mod FromHost

@@ -1,0 +1,4 @@
+pub mod FromDevice
+pub mod FromHost
+pub mod Refusals
+pub mod Regions
