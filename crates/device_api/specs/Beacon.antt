@@ -37,8 +37,7 @@ beacon_due s = if nat_lt s.sent s.count then Some (time_of s s.sent) else None
 -- each frame that arrives is logged with its length
 abbrev pub beacon_take : BeaconState → Body → Reaction BeaconState
 beacon_take s (body.Eth frame) = record { state = s; sends = []; lines = (codes "rx " ++ decimal (length frame)) ∷ [] }
-beacon_take s body.Sync = rest s
-beacon_take s (body.Intro intro) = rest s
+beacon_take s other = rest s
 
 -- the next frame is sent and logged
 abbrev pub beacon_tick : BeaconState → Reaction BeaconState

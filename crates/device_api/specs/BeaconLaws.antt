@@ -10,22 +10,19 @@ use Rattle.device_api.specs.Behaviour.{IsLawful, IsOrderly, IsNotPast, IsLater, 
 use Rattle.device_api.specs.Beacon.{BeaconState, time_of, frame_of, beacon, beacon_take, beacon_tick, beacon_due, IsSettledBeacon}
 
 pub take_events : (s : BeaconState) (arrived : Body) → AreEvents (beacon_take s arrived).sends
-take_events s body.Sync = λ k d lt. absurd (omega arith)
-take_events s (body.Intro intro) = λ k d lt. absurd (omega arith)
 take_events s (body.Eth frame) = λ k d lt. absurd (omega arith)
+take_events s other = λ k d lt. absurd (omega arith)
 
 pub tick_events : (s : BeaconState) → AreEvents (beacon_tick s).sends
 tick_events s = All-cons (λ (sent : ℕ × Body). is_event sent.1 ≡ true) (0, body.Eth (frame_of s s.sent)) [] refl (All-nil (λ (sent : ℕ × Body). is_event sent.1 ≡ true))
 
 pub take_orderly : (s : BeaconState) (t port : ℕ) (arrived : Body) → IsSettledBeacon s (t + 1) → IsOrderly beacon IsSettledBeacon s t (beacon_take s arrived)
-take_orderly s t port body.Sync settled = record { same_ports = refl; settled_after = settled; sendable = λ k d lt. absurd (omega arith) }
-take_orderly s t port (body.Intro intro) settled = record { same_ports = refl; settled_after = settled; sendable = λ k d lt. absurd (omega arith) }
 take_orderly s t port (body.Eth frame) settled = record { same_ports = refl; settled_after = settled; sendable = λ k d lt. absurd (omega arith) }
+take_orderly s t port other settled = record { same_ports = refl; settled_after = settled; sendable = λ k d lt. absurd (omega arith) }
 
 pub due_after_take : (s : BeaconState) (t : ℕ) (arrived : Body) → IsNotPast t (beacon_due s) → IsNotPast t (beacon_due (beacon_take s arrived).state)
-due_after_take s t body.Sync due = due
-due_after_take s t (body.Intro intro) due = due
 due_after_take s t (body.Eth frame) due = due
+due_after_take s t other due = due
 
 -- the time at which a beacon is due is that of its next frame
 pub due_is : (s : BeaconState) (t : ℕ) → beacon_due s ≡ Some t → time_of s s.sent ≡ t
@@ -51,13 +48,16 @@ due_after_tick s t due settled = later (nat_lt (s.sent + 1) s.count) (let is : t
 
 pub beacon_lawful : IsLawful beacon IsSettledBeacon
 beacon_lawful = record {
-  take_sends_events = λ s t port arrived. take_events s arrived;
-  tick_sends_events = λ s t. tick_events s;
-  settled_later = λ s x y settled le. record { apart = settled.apart; before = λ k lt. (let before : time_of s k < x = settled.before k lt in omega arith) };
-  take_orderly = λ s t port arrived may due in_run settled. take_orderly s t port arrived settled;
-  due_after_take = λ s t port arrived may due in_run settled. due_after_take s t arrived due;
-  tick_orderly = λ s t due in_run settled. tick_orderly s t due settled;
-  due_after_tick = λ s t due in_run settled. due_after_tick s t due settled;
+  at = λ s. record {
+    few_ports = λ x settled. omega arith;
+    take_sends_events = λ t port arrived. take_events s arrived;
+    tick_sends_events = λ t. tick_events s;
+    settled_later = λ x y settled le. record { apart = settled.apart; before = λ k lt. (let before : time_of s k < x = settled.before k lt in omega arith) };
+    take_orderly = λ t port arrived may due in_run settled. take_orderly s t port arrived settled;
+    due_after_take = λ t port arrived may due in_run settled. due_after_take s t arrived due;
+    tick_orderly = λ t due in_run settled. tick_orderly s t due settled;
+    due_after_tick = λ t due in_run settled. due_after_tick s t due settled;
+  };
 }
 
 -- at its start a beacon has sent nothing

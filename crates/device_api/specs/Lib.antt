@@ -1,10 +1,13 @@
-pub mod Gives
 pub mod Behaviour
+pub mod Gives
+pub mod Reached
+pub mod LineBytes
 pub mod Channels
 pub mod Joined
 pub mod World
 pub mod Local
 pub mod Parts
+pub mod Counts
 pub mod Transcript
 pub mod Position
 pub mod Beacon

@@ -7,11 +7,11 @@ ghost use Rattle.device_api.specs.declared.parts_bad.PartsBad.TheVariants.{Inval
 
 use crate::device::Device;
 use crate::effects::Effects;
+use crate::line_text::LineText;
 use crate::parts_bad::PartsBad;
 use cs_base::beacon_config::BeaconConfig;
 use cs_base::items::Octets;
 use cs_base::no_memory::NoMemory;
-use cs_base::numbers;
 use cs_base::port_kind::PortKind;
 use cs_base::time::Time;
 use eth_proto::EthMsg;
@@ -129,10 +129,10 @@ fn log_length(alloc: Global, word: &[u8], length: usize, out: &mut Effects) -> R
     ensures lines { OnOk result (out.new.lines ≡ out.old.lines ++ (word.now ++ decimal length) ∷ []) }
     ensures sends { out.new.sends ≡ out.old.sends }
 {
-    let mut line = Octets::new(alloc);
+    let mut line = LineText::new(alloc);
     line.append(word)?;
-    numbers::decimal(length as u64, &mut line)?;
-    out.lines.push(line)
+    line.decimal(length as u64)?;
+    out.line_text(line)
 }
 
 impl Device for Beacon {
@@ -168,8 +168,8 @@ impl Device for Beacon {
         out: &mut Effects,
     ) -> Result<(), NoMemory> {
         match body {
-            Body::Sync | Body::Intro(_) => Ok(()),
             Body::Eth(message) => log_length(alloc, b"rx ", message.frame().len(), out),
+            _ => Ok(()),
         }
     }
 

@@ -1,4 +1,4 @@
-ghost use Rattle.std.specs.Prelude.{◌≡◌, ◌+◌, ◌^◌, ◌<◌, ℕ, [], length, slice_get, Some, OnOk};
+ghost use Rattle.std.specs.Prelude.{◌≡◌, ◌+◌, ◌^◌, ◌<◌, ℕ, length, slice_get, Some, OnOk};
 ghost use Rattle.sb_message.specs.Receivable.{MayReceive};
 ghost use Rattle.device_api.specs.Behaviour.{Behaviour, IsLawful, IsNotPast};
 ghost use Rattle.device_api.specs.Gives.{Gives};
@@ -32,7 +32,7 @@ pub trait Device: Drop {
     fn due(&self) -> Option<Time>
         ensures { result ≡ behaviour.due self.now };
 
-    /// Takes what arrives at `t` on a port.
+    /// Takes what arrives at `t` on a port. What it sends and logs comes behind what `out` has.
     fn take(
         &mut self,
         alloc: Global,
@@ -41,22 +41,18 @@ pub trait Device: Drop {
         body: Body,
         out: &mut Effects,
     ) -> Result<(), NoMemory>
-        requires no_sends { out.old.sends ≡ [] }
-        requires no_lines { out.old.lines ≡ [] }
         requires receivable { MayReceive (behaviour.ports self.old) port body }
         requires not_past { IsNotPast t (behaviour.due self.old) }
         requires in_run { t < 10 ^ 15 }
         requires settled_then { settled self.old (t + 1) }
-        ensures { OnOk result (Gives (behaviour.take self.old t port body) self.new out.new) };
+        ensures { OnOk result (Gives (behaviour.take self.old t port body) self.new out.old out.new) };
 
-    /// Does what it does at its due time.
+    /// Does what it does at its due time. What it sends and logs comes behind what `out` has.
     fn tick(&mut self, alloc: Global, t: Time, out: &mut Effects) -> Result<(), NoMemory>
-        requires no_sends { out.old.sends ≡ [] }
-        requires no_lines { out.old.lines ≡ [] }
         requires due_now { behaviour.due self.old ≡ Some t }
         requires in_run { t < 10 ^ 15 }
         requires settled_then { settled self.old (t + 1) }
-        ensures { OnOk result (Gives (behaviour.tick self.old t) self.new out.new) };
+        ensures { OnOk result (Gives (behaviour.tick self.old t) self.new out.old out.new) };
 
     ghost lawful: { IsLawful behaviour settled };
 }

@@ -1,17 +1,27 @@
 ghost use Rattle.std.specs.Prelude.{◌≡◌, [], ◌∷◌, ◌++◌, OnOk, OnErr};
 
-use cs_base::items::{Items, Octets};
+use crate::line_text::LineText;
+use cs_base::items::Items;
 use cs_base::no_memory::NoMemory;
 use sb_message::Body;
 use std::alloc::Global;
+use std::marker::Model;
 
-/// What a device does to its surroundings in one event.
+/// What devices do to their surroundings.
 #[derive(Debug, Drop)]
 pub struct Effects {
-    /// What it sends, by which port, in order.
+    /// What is sent, by which port, in order.
     pub sends: Items<(u32, Body)>,
-    /// The lines that it logs, without line feeds.
-    pub lines: Items<Octets>,
+    /// The lines that are logged, without line feeds.
+    pub lines: Items<LineText>,
+}
+
+impl Model for Effects {
+    ghost use Rattle.device_api.specs.Behaviour.{SendsAndLines};
+
+    ghost Value = { SendsAndLines };
+
+    ghost view = { λ effects. record { sends = effects.sends; lines = effects.lines } };
 }
 
 impl Effects {
@@ -41,9 +51,18 @@ impl Effects {
         ensures err { OnErr result (self.new.lines ≡ self.old.lines) }
         ensures sends { self.new.sends ≡ self.old.sends }
     {
-        let mut line = Octets::new(self.lines.alloc());
+        let mut line = LineText::new(self.lines.alloc());
         line.append(text)?;
         self.lines.push(line)
+    }
+
+    /// Adds a line, given without its line feed.
+    pub fn line_text(&mut self, text: LineText) -> Result<(), NoMemory>
+        ensures ok { OnOk result (self.new.lines ≡ self.old.lines ++ text ∷ []) }
+        ensures err { OnErr result (self.new.lines ≡ self.old.lines) }
+        ensures sends { self.new.sends ≡ self.old.sends }
+    {
+        self.lines.push(text)
     }
 
     /// Forgets all effects and keeps their room.

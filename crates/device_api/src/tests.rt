@@ -1,8 +1,8 @@
 //! That the calls succeed, and which parts are refused.
 ghost use Rattle.std.specs.Prelude.{◌≤◌, ◌^◌};
 
-use crate::{Beacon, BeaconParts, PartsBad};
-use cs_base::{BeaconConfig, Mac, Time};
+use crate::{Beacon, BeaconParts, Component, Effects, LineText, Outcome, PartsBad, log_all};
+use cs_base::{BeaconConfig, Items, Mac, Time};
 use std::test::Fail;
 
 /// Three frames: at 1000, 2000 and 3000.
@@ -107,4 +107,45 @@ fn parts_stand_between_two_frames(rt: HostRuntime) {
             assert!(rt; made == Some(case.valid), "{} at {}", case.sent, case.at);
         }
     }
+}
+
+/// That threads may be handed a value of this type.
+fn is_sent<T: Send>() {}
+
+#[test]
+fn devices_and_logs_may_go_to_threads(_rt: HostRuntime) {
+    is_sent::<Component<Beacon>>();
+    is_sent::<Effects>();
+    is_sent::<Outcome>();
+}
+
+#[test]
+fn texts_are_short_or_long(rt: HostRuntime) -> Result<(), Fail> {
+    let mut text = LineText::new(rt.alloc());
+    text.append(b"store ")?;
+    text.hexadecimal(0x8000_0000)?;
+    text.append(b" by ")?;
+    assert_eq!(rt; text.as_slice(), b"store 0x80000000 by ".as_slice());
+    text.decimal(99)?;
+    assert_eq!(rt; text.as_slice(), b"store 0x80000000 by 99".as_slice());
+    assert_eq!(rt; text.len(), 22);
+    text.decimal(100)?;
+    assert_eq!(rt; text.as_slice(), b"store 0x80000000 by 99100".as_slice());
+    Ok(())
+}
+
+#[test]
+fn lines_are_logged_in_order(rt: HostRuntime) -> Result<(), Fail> {
+    let mut out = Effects::new(rt.alloc());
+    let mut log = Items::new(rt.alloc());
+    out.line(b"one")?;
+    out.line(b"two")?;
+    log_all(Time(7), &mut out.lines, &mut log)?;
+    assert!(rt; out.lines.is_empty());
+    let second = log.pop().ok_or("no line")?;
+    assert_eq!(rt; second.text.as_slice(), b"two".as_slice());
+    assert_eq!(rt; second.at.picoseconds(), 7);
+    let first = log.pop().ok_or("no line")?;
+    assert_eq!(rt; first.text.as_slice(), b"one".as_slice());
+    Ok(())
 }

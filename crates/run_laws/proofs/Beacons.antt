@@ -34,7 +34,7 @@ are_wired = record {
 }
 
 pub beacons_send_events : SendsEvents beacon
-beacons_send_events = record { take_sends_events = beacon_lawful.take_sends_events; tick_sends_events = beacon_lawful.tick_sends_events }
+beacons_send_events = record { take_sends_events = λ s. (beacon_lawful.at s).take_sends_events; tick_sends_events = λ s. (beacon_lawful.at s).tick_sends_events }
 
 -- the log of a beacon, from the logs of both
 pub its_log : (c : ℕ) (run : Run BeaconState) (logs : List (List Line)) (log : List Line) → slice_get (global_until (broadcasts 500 500) 2600).runs c ≡ Some run → logs_of (global_until (broadcasts 500 500) 2600) ≡ logs → slice_get logs c ≡ Some log → run.log ≡ log

@@ -1,13 +1,12 @@
 -- Two beacons at the ends of a link, and what of their runs is told.
-use Rattle.std.specs.Prelude.{ℕ, ◌-◌, Bool, true, false, List, [], ◌∷◌, map, filter, codes}
+use Rattle.std.specs.Prelude.{ℕ, ◌-◌, List, [], ◌∷◌, map, filter, codes}
 use Rattle.cs_base.specs.declared.link.Link.{Link}
 use Rattle.cs_base.specs.declared.port_kind.Via.TheVariants.{Queue}
-use Rattle.sb_message.specs.declared.message.Body.{Body}
-use Rattle.sb_message.specs.declared.message.Body.TheVariants as body
 use Rattle.sb_message.specs.declared.message.Msg.{Msg}
 use Rattle.device_api.specs.declared.logs.Line.{Line}
 use Rattle.device_api.specs.Beacon.{BeaconState, beacon}
 use Rattle.device_api.specs.Channels.{Channel}
+use Rattle.device_api.specs.Counts.{is_sync}
 use Rattle.device_api.specs.World.{Network}
 
 -- a beacon that sends so many broadcasts of 60 bytes
@@ -39,10 +38,5 @@ abbrev pub received_at_time : ℕ → Line
 received_at_time t = record { at = t; text = codes "rx 60" }
 
 -- the times at which null messages were sent on a channel
-abbrev pub is_null : Body → Bool
-is_null body.Sync = true
-is_null (body.Intro intro) = false
-is_null (body.Eth frame) = false
-
 abbrev pub null_times : Channel → List Msg → List ℕ
-null_times ch messages = map (λ m. m.at - ch.latency) (filter (λ m. is_null m.body) messages)
+null_times ch messages = map (λ m. m.at - ch.latency) (filter (λ m. is_sync m.body) messages)

@@ -32,17 +32,17 @@ pub one_each_learned : (s : SwitchState) (t : ℕ) (from : List ℕ) (port : ℕ
 one_each_learned s t from port one_each = one_each-put (place_for s t from) (learned_entry t from port) s.entries (place_within s t from) one_each (λ k d lt apart. stands_apart s t from k d one_each lt apart)
 
 -- an entry of one address is none of another
-apart : (mac from : List ℕ) (x : Entry) → bytes_eq mac from ≡ false → is_of from x ≡ true → is_of mac x ≡ false
+pub apart : (mac from : List ℕ) (x : Entry) → bytes_eq mac from ≡ false → is_of from x ≡ true → is_of mac x ≡ false
 apart mac from x other is = ap (λ m. bytes_eq mac m) (sym ((bytes_eq-Decides from x.mac).0 is)) ∙ other
 
-itself : (mac : List ℕ) → bytes_eq mac mac ≡ true
+pub itself : (mac : List ℕ) → bytes_eq mac mac ≡ true
 itself mac = (bytes_eq-Decides mac mac).1 refl
 
-twice : (is : Bool) (n : ℕ) → only is (only is n) ≡ only is n
+pub twice : (is : Bool) (n : ℕ) → only is (only is n) ≡ only is n
 twice true n = refl
 twice false n = refl
 
-neither : (is_from is_mac : Bool) (n : ℕ) → (is_from ≡ true → is_mac ≡ false) → only is_from (only is_mac n) ≡ 0
+pub neither : (is_from is_mac : Bool) (n : ℕ) → (is_from ≡ true → is_mac ≡ false) → only is_from (only is_mac n) ≡ 0
 neither true is_mac n other = rw (other refl) refl
 neither false is_mac n other = refl
 
@@ -184,8 +184,6 @@ pub relay_alike : (t port : ℕ) (s other : SwitchState) (to : List ℕ) → loo
 relay_alike t port s other to same = ap (λ o. if is_reserved to then Filter else if is_individual to then towards port o else Flood) same
 
 pub take_alike : (s other : SwitchState) (at t port : ℕ) (arrived : Body) → IsAlike at s other → at ≤ t → IsSettledSwitch s (t + 1) → IsSettledSwitch other (t + 1) → ReactAlike t (switch_take s t port arrived) (switch_take other t port arrived)
-take_alike s other at t port body.Sync alike le settled settled_other = record { same_sends = refl; same_lines = refl; alike_after = alike_later at t s other le alike }
-take_alike s other at t port (body.Intro intro) alike le settled settled_other = record { same_sends = refl; same_lines = refl; alike_after = alike_later at t s other le alike }
 take_alike s other at t port (body.Eth frame) alike le settled settled_other =
     let now : IsAlike t s other = alike_later at t s other le alike in
     let after : IsAlike t (learn s t (source frame) port) (learn other t (source frame) port) = learn_alike t s other (source frame) port now settled settled_other in
@@ -195,3 +193,4 @@ take_alike s other at t port (body.Eth frame) alike le settled settled_other =
       same_lines = ap (λ (b : Bool). news_lines b (source frame) port ++ line_of (relay (learn s t (source frame) port) t port (destination frame)) ∷ []) (news_alike t s other (source frame) port now settled settled_other) ∙ ap (λ (w : Relay). news_lines (is_news other t (source frame) port) (source frame) port ++ line_of w ∷ []) way;
       alike_after = after;
     }
+take_alike s other at t port arrived alike le settled settled_other = record { same_sends = refl; same_lines = refl; alike_after = alike_later at t s other le alike }

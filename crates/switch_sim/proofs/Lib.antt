@@ -7,3 +7,4 @@ pub mod Counted
 pub mod Alikes
 pub mod Standing
 pub mod Flooding
+pub mod Mapped

@@ -85,13 +85,14 @@ one_each_ascending xs ascend i j d lt within = apart (slice_index_or xs i d).mac
 pub resumed_is : (config : SwitchConfig) (s : SwitchState) (parts : SwitchParts) → IsOf config s → record s { entries = parts.entries } ≡ resumed config parts
 resumed_is config s parts is = ap (λ (x : SwitchState). record x { entries = parts.entries }) is
 
-pub stands_settled : (at : ℕ) (s : SwitchState) → StandsAt at s → (x : ℕ) → at ≤ x → IsSettledSwitch s x
-stands_settled at s stands x le = record {
+pub stands_settled : (at : ℕ) (s : SwitchState) → s.ports ≤ 32 → StandsAt at s → (x : ℕ) → at ≤ x → IsSettledSwitch s x
+stands_settled at s few_ports stands x le = record {
   seen_before = λ k d within. (let before = (told (slice_index_or s.entries k d) (stands.live k d within)).2 in omega (arith, before, le));
   ports_exist = λ k d within. (told (slice_index_or s.entries k d) (stands.live k d within)).1;
   individual = λ k d within. (told (slice_index_or s.entries k d) (stands.live k d within)).0;
   one_each = one_each_ascending s.entries stands.ascend;
   few = stands.few;
+  few_ports = few_ports;
 }
   where
     below : (m n : ℕ) → nat_lt m n ≡ true → m < n

@@ -5,6 +5,7 @@ pub mod Table
 pub mod Switch
 pub mod Parts
 pub mod Alike
+pub mod Sightings
 pub mod TableLaws
 pub mod RoomLaws
 pub mod SwitchLaws

@@ -66,18 +66,18 @@ reaction_to s t port frame = let learned = learn s t (source frame) port in let 
 
 abbrev pub switch_take : SwitchState → ℕ → ℕ → Body → Reaction SwitchState
 switch_take s t port (body.Eth frame) = reaction_to s t port frame
-switch_take s t port body.Sync = rest s
-switch_take s t port (body.Intro intro) = rest s
+switch_take s t port other = rest s
 
 -- all ports are for Ethernet, and the switch does nothing by itself
 abbrev pub switch : Behaviour SwitchState
 switch = record { ports = λ s. replicate s.ports Eth; due = λ s. None; take = switch_take; tick = λ s t. rest s }
 
--- the table is one of at most 4,096 individual addresses, each with one entry, and each was seen before x at a port
--- that exists
+-- the switch has at most 32 ports; its table is one of at most 4,096 individual addresses, each with one entry, and
+-- each was seen before x at a port that exists
 pub record IsSettledSwitch (s : SwitchState) (x : ℕ) : Type 0 where
   pub seen_before : All (λ (e : Entry). e.seen < x) s.entries
   pub ports_exist : All (λ (e : Entry). e.port < s.ports) s.entries
   pub individual : All (λ (e : Entry). is_individual e.mac ≡ true) s.entries
   pub one_each : AllPairs (λ (e other : Entry). bytes_eq e.mac other.mac ≡ false) s.entries
   pub few : length s.entries ≤ 4096
+  pub few_ports : s.ports ≤ 32

@@ -5,6 +5,7 @@ use Rattle.std.proofs.Common.{arith, ap, sym, subst, ◌∙◌, le_refl}
 use Rattle.std.proofs.lemmas.Option.{none-some, slice_get_within, get_or_from_slice_get}
 use Rattle.std.proofs.lemmas.List.Folds.{find_at}
 use Rattle.std.proofs.lemmas.Bool.{and_parts}
+use Rattle.std.proofs.lemmas.List.{length-replicate}
 use Rattle.std.proofs.lemmas.Bool.Decides.{nat_tests}
 use Rattle.std.proofs.lemmas.List.Elements.{All-nil, All-cons, All-append}
 use Rattle.cs_base.specs.declared.port_kind.PortKind.{PortKind}
@@ -39,6 +40,7 @@ learn_settled s t from port settled exists = at (may_learn s t from) refl
           individual = All-put (λ (e : Entry). is_individual e.mac ≡ true) (place_for s t from) e s.entries within parts.0 settled.individual;
           one_each = one_each-put (place_for s t from) e s.entries within settled.one_each (λ k d lt apart. stands_apart s t from k d settled.one_each lt apart);
           few = length-put (place_for s t from) e s.entries within room settled.few;
+          few_ports = settled.few_ports;
         }
 
 -- PORTS AND SENDS
@@ -135,13 +137,10 @@ learn_ports s t from port = at (may_learn s t from)
     at false = refl
 
 pub take_events : (s : SwitchState) (t port : ℕ) (arrived : Body) → AreEvents (switch_take s t port arrived).sends
-take_events s t port body.Sync = All-nil (λ (sent : ℕ × Body). is_event sent.1 ≡ true)
-take_events s t port (body.Intro intro) = All-nil (λ (sent : ℕ × Body). is_event sent.1 ≡ true)
 take_events s t port (body.Eth frame) = sends_events s.ports port frame (relay (learn s t (source frame) port) t port (destination frame))
+take_events s t port other = All-nil (λ (sent : ℕ × Body). is_event sent.1 ≡ true)
 
 pub take_orderly : (s : SwitchState) (t port : ℕ) (arrived : Body) → port < s.ports → IsSettledSwitch s (t + 1) → IsOrderly switch IsSettledSwitch s t (switch_take s t port arrived)
-take_orderly s t port body.Sync exists settled = record { same_ports = refl; settled_after = settled; sendable = All-nil (λ (sent : ℕ × Body). MaySend (replicate s.ports Eth) sent.0 sent.1) }
-take_orderly s t port (body.Intro intro) exists settled = record { same_ports = refl; settled_after = settled; sendable = All-nil (λ (sent : ℕ × Body). MaySend (replicate s.ports Eth) sent.0 sent.1) }
 take_orderly s t port (body.Eth frame) exists settled =
     let learned : SwitchState = learn s t (source frame) port in
     let after : IsSettledSwitch learned (t + 1) = learn_settled s t (source frame) port settled exists in
@@ -150,6 +149,7 @@ take_orderly s t port (body.Eth frame) exists settled =
       settled_after = after;
       sendable = sends_may s.ports port frame (relay learned t port (destination frame)) (subst (λ (n : ℕ). ForwardsBelow n (relay learned t port (destination frame))) (learn_ports s t (source frame) port) (relay_below learned t port (destination frame) after.ports_exist));
     }
+take_orderly s t port other exists settled = record { same_ports = refl; settled_after = settled; sendable = All-nil (λ (sent : ℕ × Body). MaySend (replicate s.ports Eth) sent.0 sent.1) }
 
 pub settled_later : (s : SwitchState) (x y : ℕ) → IsSettledSwitch s x → x ≤ y → IsSettledSwitch s y
 settled_later s x y settled le = record {
@@ -158,15 +158,19 @@ settled_later s x y settled le = record {
   individual = settled.individual;
   one_each = settled.one_each;
   few = settled.few;
+  few_ports = settled.few_ports;
 }
 
 pub switch_lawful : IsLawful switch IsSettledSwitch
 switch_lawful = record {
-  take_sends_events = take_events;
-  tick_sends_events = λ s t. All-nil (λ (sent : ℕ × Body). is_event sent.1 ≡ true);
-  settled_later = settled_later;
-  take_orderly = λ s t port arrived may due in_run settled. take_orderly s t port arrived (below_ports s.ports port may.kind may.at_port) settled;
-  due_after_take = λ s t port arrived may due in_run settled. tt;
-  tick_orderly = λ s t due in_run settled. absurd (none-some t due);
-  due_after_tick = λ s t due in_run settled. tt;
+  at = λ s. record {
+    few_ports = λ x settled. rw (length-replicate s.ports Eth) settled.few_ports;
+    take_sends_events = take_events s;
+    tick_sends_events = λ t. All-nil (λ (sent : ℕ × Body). is_event sent.1 ≡ true);
+    settled_later = settled_later s;
+    take_orderly = λ t port arrived may due in_run settled. take_orderly s t port arrived (below_ports s.ports port may.kind may.at_port) settled;
+    due_after_take = λ t port arrived may due in_run settled. tt;
+    tick_orderly = λ t due in_run settled. absurd (none-some t due);
+    due_after_tick = λ t due in_run settled. tt;
+  };
 }

@@ -6,7 +6,7 @@ use cs_base::items::Octets;
 use cs_base::mac::Mac;
 use cs_base::no_memory::NoMemory;
 use cs_base::numbers;
-use device_api::Effects;
+use device_api::{Effects, LineText};
 use eth_proto::EthMsg;
 use sb_message::Body;
 use std::alloc::Global;
@@ -70,8 +70,7 @@ fn flood_copies(
     ports: u32,
     out: &mut Effects,
 ) -> Result<(), NoMemory>
-    requires { out.old.sends ≡ [] }
-    ensures sends { OnOk result (out.new.sends ≡ flood message.now arrival ports) }
+    ensures sends { OnOk result (out.new.sends ≡ out.old.sends ++ flood message.now arrival ports) }
     ensures lines { out.new.lines ≡ out.old.lines }
 {
     for port in 0..ports {
@@ -82,8 +81,7 @@ fn flood_copies(
 
 /// Sends a frame by each of the ports but that of its arrival: copies, and the frame itself by the last one.
 fn flood(message: EthMsg, arrival: u32, ports: u32, out: &mut Effects) -> Result<(), NoMemory>
-    requires { out.old.sends ≡ [] }
-    ensures sends { OnOk result (out.new.sends ≡ flood message arrival ports) }
+    ensures sends { OnOk result (out.new.sends ≡ out.old.sends ++ flood message arrival ports) }
     ensures lines { out.new.lines ≡ out.old.lines }
 {
     match last_other(arrival, ports) {
@@ -104,8 +102,7 @@ impl Relay {
         ports: u32,
         out: &mut Effects,
     ) -> Result<(), NoMemory>
-        requires { out.old.sends ≡ [] }
-        ensures sends { OnOk result (out.new.sends ≡ sends_of ports arrival message self) }
+        ensures sends { OnOk result (out.new.sends ≡ out.old.sends ++ sends_of ports arrival message self) }
         ensures lines { out.new.lines ≡ out.old.lines }
     {
         match self {
@@ -120,28 +117,30 @@ impl Relay {
         ensures lines { OnOk result (out.new.lines ≡ out.old.lines ++ line_of self ∷ []) }
         ensures sends { out.new.sends ≡ out.old.sends }
     {
-        let mut line = Octets::new(alloc);
+        let mut line = LineText::new(alloc);
         match self {
             Relay::Filter => line.append(b"filter")?,
             Relay::Flood => line.append(b"flood")?,
             Relay::Forward(port) => {
                 line.append(b"forward ")?;
-                numbers::decimal(u64::from(port), &mut line)?
+                line.decimal(u64::from(port))?
             }
         }
-        out.lines.push(line)
+        out.line_text(line)
     }
 }
 
 /// The line that says where a station was learned to be.
-fn news_line(alloc: Global, from: Mac, port: u32) -> Result<Octets, NoMemory>
+fn news_line(alloc: Global, from: Mac, port: u32) -> Result<LineText, NoMemory>
     ensures { IfOk result (λ line. line ≡ news_line from port) }
 {
-    let mut line = Octets::new(alloc);
+    let mut address = Octets::new(alloc);
+    numbers::mac_text(from, &mut address)?;
+    let mut line = LineText::new(alloc);
     line.append(b"learn ")?;
-    numbers::mac_text(from, &mut line)?;
+    line.append(address.as_slice())?;
     line.append(b" ")?;
-    numbers::decimal(u64::from(port), &mut line)?;
+    line.decimal(u64::from(port))?;
     Ok(line)
 }
 
@@ -158,7 +157,7 @@ pub fn log_news(
 {
     if news {
         let line = news_line(alloc, from, port)?;
-        out.lines.push(line)
+        out.line_text(line)
     } else {
         Ok(())
     }

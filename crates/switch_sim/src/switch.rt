@@ -203,11 +203,9 @@ impl Switch {
         message: EthMsg,
         out: &mut Effects,
     ) -> Result<(), NoMemory>
-        requires no_sends { out.old.sends ≡ [] }
-        requires no_lines { out.old.lines ≡ [] }
         requires settled { IsSettledSwitch self.old (t + 1) }
         requires port_exists { port < self.old.ports }
-        ensures { OnOk result (Gives (reaction_to self.old t port message) self.new out.new) }
+        ensures { OnOk result (Gives (reaction_to self.old t port message) self.new out.old out.new) }
     {
         let ports = self.config.ports;
         let to = address_at(message.frame(), 0);
@@ -259,16 +257,14 @@ impl Device for Switch {
         out: &mut Effects,
     ) -> Result<(), NoMemory> {
         match body {
-            Body::Sync | Body::Intro(_) => Ok(()),
             Body::Eth(message) => self.receive(alloc, t, port, message, out),
+            _ => Ok(()),
         }
     }
 
     /// A switch is never due, so that this asks less than other devices do, and does nothing.
-    fn tick(&mut self, _alloc: Global, _t: Time, out: &mut Effects) -> Result<(), NoMemory>
-        requires no_sends { out.old.sends ≡ [] }
-        requires no_lines { out.old.lines ≡ [] }
-        ensures { OnOk result (Gives (switch.tick self.old _t) self.new out.new) }
+    fn tick(&mut self, _alloc: Global, _t: Time, _out: &mut Effects) -> Result<(), NoMemory>
+        ensures { OnOk result (Gives (switch.tick self.old _t) self.new _out.old _out.new) }
     {
         Ok(())
     }

@@ -120,6 +120,19 @@ fn text_of(alloc: Global, out: &Effects) -> Result<Octets, Fail> {
     Ok(text)
 }
 
+/// What the switch does with a frame, as a text.
+fn does(alloc: Global, switch: &mut Switch, now: u64, case: &Case) -> Result<Octets, Fail>
+    requires settled { IsSettledSwitch switch.old now }
+    requires later { now ≤ case.now.at + 1 }
+    requires in_run { case.now.at < 10 ^ 15 }
+    requires port { case.now.port < switch.old.ports }
+    ensures settled { OnOk result (IsSettledSwitch switch.new (case.now.at + 1)) }
+    ensures ports { OnOk result (switch.new.ports ≡ switch.old.ports) }
+{
+    let out = takes(alloc, switch, now, case)?;
+    text_of(alloc, &out)
+}
+
 #[test]
 fn frames_are_learned_from_and_relayed(rt: HostRuntime) -> Result<(), Fail> {
     let config = SwitchConfig {
@@ -130,9 +143,9 @@ fn frames_are_learned_from_and_relayed(rt: HostRuntime) -> Result<(), Fail> {
     let mut now = 0;
     for case in &CASES {
         if case.port < 3 && now <= case.at && case.at < 2000 {
-            let out = takes(rt.alloc(), &mut switch, now, case)?;
+            let does = does(rt.alloc(), &mut switch, now, case)?;
             now = case.at + 1;
-            assert_eq!(rt; text_of(rt.alloc(), &out)?.as_slice(), case.does.as_bytes());
+            assert_eq!(rt; does.as_slice(), case.does.as_bytes());
         }
     }
     assert_eq!(rt; now, 1003);
@@ -331,4 +344,13 @@ fn parts_are_live_entries_in_order(rt: HostRuntime) -> Result<(), Fail> {
         }
     }
     Ok(())
+}
+
+/// That threads may be handed a value of this type.
+fn is_sent<T: Send>() {}
+
+#[test]
+fn switches_may_go_to_threads(_rt: HostRuntime) {
+    is_sent::<Switch>();
+    is_sent::<SwitchParts>();
 }
