@@ -1,0 +1,6 @@
+use Rattle.std.proofs.Common.{◌≡◌}
+use Rattle.slot_queue.specs.Rising.{IsRising}
+use Rattle.queue_bench.proofs.slots.pass.Given as goal
+
+abbrev pub invariant-loop : goal.invariant-loop
+invariant-loop l = (l.producer.queue ≡ l.queue.name) × (l.consumer.queue ≡ l.queue.name) × IsRising l.producer.kind l.producer.sent 1

@@ -1,0 +1,9 @@
+pub mod Places
+pub mod Changes
+pub mod Seats
+pub mod Steps
+pub mod Rising
+pub mod Offers
+pub mod Turns
+pub mod Gathering
+pub mod Leaving
