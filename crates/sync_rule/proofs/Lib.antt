@@ -1,0 +1,10 @@
+pub mod Places
+pub mod Posted
+pub mod Soonests
+pub mod Keys
+pub mod Chosen
+pub mod Looked
+pub mod Ready
+pub mod Steps
+pub mod Intros
+pub mod Waiting

@@ -1,0 +1,12 @@
+use Rattle.std.proofs.Common.{◌≡◌, ◌<◌, Some, refl, sym, ap, subst, length}
+use Rattle.std.specs.Prelude.{slice_get, slice_set}
+use Rattle.std.proofs.lemmas.Option.{slice_get_read}
+use Rattle.sync_rule.specs.Ports.{synced}
+use Rattle.sync_rule.proofs.Steps.{on_ok, changed_at}
+use Rattle.sync_rule.proofs.outgoing_ports.OutgoingPorts.sync.Goals as goal
+
+pub returns : goal.returns
+returns c =
+    let view = c.self.view_is in
+    let at = slice_get_read c.self.inside.items.items _ c.args.port c.index_mut.result.now refl (subst (λ l. c.args.port < length l) (sym view) c.requires.there) c.index_mut.ensures.value in
+    on_ok c.sync.result (λ same. changed_at c.self.inside.items.items c.args.self.now c.args.port c.index_mut.result.now c.sync.new.self (synced c.args.u) view at same) c.sync.ensures

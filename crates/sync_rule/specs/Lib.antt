@@ -1,0 +1,10 @@
+pub mod Ports
+pub mod Times
+pub mod Soonest
+pub mod OnePort
+pub mod ManyPorts
+pub mod Next
+pub mod Choice
+pub mod Looks
+pub mod Fronts
+pub mod Steps
