@@ -1,6 +1,7 @@
 #!/usr/bin/env bash
 # Measures the program: `cosim model` on two stations that send to each other, over a cable and through a switch, and
-# `cosim asm` on long sources. Each line is the fastest of three runs of the whole program.
+# `cosim asm` on long sources; and `cosim model` beside the plain C++ event loop of peer/events.cpp, whose output it is
+# compared with. Each line is the fastest of three runs of the whole program. A ratio above 1: cosim is faster.
 set -eu
 cosim=$(cd "$(dirname "${BASH_SOURCE[0]}")/.." && pwd)/cosim
 folder=$(mktemp -d)
@@ -89,3 +90,95 @@ for statements in 1000 10000 100000 1000000; do
   program "$statements" > "$folder/program.s"
   fastest "statements assembled" "$statements" asm "$folder/program.s"
 done
+
+# BESIDE C++
+
+meshed() { # stations, frames of each, latency, whether there is a switch
+  echo "end = 1000000000000000"
+  for ((i = 0; i < $1; i++)); do
+    printf '[[component]]\nname = "c%d"\nkind = "beacon"\nfirst = %d\nperiod = 1000\ncount = %d\n' "$i" $((1000 + 7 * i)) "$2"
+    printf 'to = "02:00:00:00:00:%02x"\nfrom = "02:00:00:00:00:%02x"\n' $(((i ^ 1) + 1)) $((i + 1))
+  done
+  if [ "$4" = switch ]; then
+    printf '[[component]]\nname = "s"\nkind = "switch"\nports = 2\n'
+    printf '[[link]]\na = "c0"\nb = "s"\nlatency = %d\n[[link]]\na = "c1"\nb = "s"\nb_port = 1\nlatency = %d\n' "$3" "$3"
+  else
+    for ((i = 0; i < $1; i += 2)); do
+      printf '[[link]]\na = "c%d"\nb = "c%d"\nlatency = %d\n' "$i" $((i + 1)) "$3"
+    done
+  fi
+}
+
+quickest() { # the output's file, and the words of a command: nanoseconds
+  local out=$1 best= began took
+  shift
+  for _ in 1 2 3; do
+    began=$(date +%s%N)
+    "$@" > "$out"
+    took=$(($(date +%s%N) - began))
+    if [ -z "$best" ] || [ "$took" -lt "$best" ]; then best=$took; fi
+  done
+  echo "$best"
+}
+
+beside() { # what is compared, how many events, the peer's words
+  local what=$1 events=$2 peer own
+  shift 2
+  peer=$(quickest "$folder/peer.out" "$folder/events" "$@")
+  own=$(quickest "$folder/own.out" "$cosim" model "$folder/mesh.toml")
+  cmp "$folder/peer.out" "$folder/own.out"
+  awk -v what="$what" -v events="$events" -v peer="$peer" -v own="$own" \
+    'BEGIN { printf "%-14s C++ %6.1f ns, cosim %6.1f ns an event: ratio %.2f\n", what, peer / events, own / events, peer / own }'
+}
+
+g++ -std=c++17 -O2 -o "$folder/events" "$(dirname "${BASH_SOURCE[0]}")/peer/events.cpp"
+for stations in 2 8 32 64; do
+  frames=$((500000 / stations))
+  latency=$([ "$stations" = 2 ] && echo 500 || echo 100000)
+  meshed "$stations" "$frames" "$latency" cable > "$folder/mesh.toml"
+  beside "$stations components" $((2 * frames * stations)) cable "$frames" "$stations" "$latency"
+done
+meshed 2 200000 500 switch > "$folder/mesh.toml"
+beside "a switch" 1200000 switch 200000 2 500
+
+# The kernels by lanes, over 64 MiB in calls of each length: their own program, and a plain loop in C that the compiler
+# makes vectors of, where there is one.
+bench=$(dirname "$cosim")/crates/lane_bench
+[ -x "$bench/out/lane_bench" ] || (cd "$bench" && rt run > "$folder/build.log" 2>&1)
+"$bench/out/lane_bench" 64 1514 1048576
+if cc=$(command -v clang || command -v gcc); then
+  cat > "$folder/sum.c" <<'C'
+#include <stdint.h>
+#include <stdio.h>
+#include <string.h>
+#include <time.h>
+static uint8_t bytes[1 << 20];
+__attribute__((noinline)) static uint32_t sum(const uint8_t *at, size_t length) {
+  uint64_t total = 0;
+  for (size_t place = 0; place + 1 < length; place += 2) total += (uint32_t)at[place] << 8 | at[place + 1];
+  return total ? 1 + (total - 1) % 65535 : 0;
+}
+static uint64_t now(void) {
+  struct timespec t;
+  clock_gettime(CLOCK_MONOTONIC, &t);
+  return t.tv_sec * 1000000000ull + t.tv_nsec;
+}
+int main(void) {
+  uint64_t best = UINT64_MAX, answers = 0;
+  memset(bytes, 0x5a, sizeof bytes);
+  for (int round = 0; round < 5; round++) {
+    uint64_t began = now();
+    for (int call = 0; call < 64; call++) bytes[0] = call, answers += sum(bytes, sizeof bytes);
+    uint64_t took = now() - began;
+    if (took < best) best = took;
+  }
+  printf("a plain sum in C length 1048576 calls 64 %llu ns (answers %llu)\n", (unsigned long long)best, (unsigned long long)answers);
+}
+C
+  "$cc" -O3 -march=x86-64-v2 -o "$folder/sum" "$folder/sum.c" && "$folder/sum"
+fi
+
+# 10^7 null messages through a slot queue of 64 slots and through the ring of rtrb, on one thread and between two.
+queues=$(dirname "$cosim")/crates/queue_bench
+[ -x "$queues/out/queue_bench" ] || (cd "$queues" && rt run > "$folder/queues.log" 2>&1)
+"$queues/out/queue_bench" 10000000

@@ -1,9 +1,9 @@
 -- After a component's moment the run is under way at the next place.
-use Rattle.std.specs.Prelude.{ℕ, suc, ◌≡◌, ◌≢◌, ◌==◌, ◌+◌, ◌≤◌, ◌<◌, nat_le, nat_lt, Bool, true, false, if◌then◌else◌, ◌&&◌, List, [], ◌∷◌, ◌++◌, length, map, slice_get, slice_set, Option, Some, None, IsSome, IfSome, All, option_map, option_and_then, refl, ◌⊎◌}
-use Rattle.std.proofs.lemmas.Bool.{false≢true}
+use Rattle.std.specs.Prelude.{ℕ, suc, ◌≡◌, ◌≢◌, ◌==◌, ◌+◌, ◌≤◌, ◌<◌, ◌^◌, min, nat_le, nat_lt, Bool, true, false, if◌then◌else◌, ◌&&◌, List, [], ◌∷◌, ◌++◌, length, map, slice_get, slice_set, Option, Some, None, IsSome, IfSome, All, option_map, option_and_then, refl, ◌⊎◌}
+use Rattle.std.proofs.lemmas.Bool.{false≢true, cases_eq}
 use Rattle.std.proofs.lemmas.Bool.Decides.{nat_tests}
-use Rattle.std.proofs.lemmas.List.{length-map}
-use Rattle.std.proofs.lemmas.List.Elements.{All-head, All-tail, All-append, All-weaker}
+use Rattle.std.proofs.lemmas.List.{length-map, length-set}
+use Rattle.std.proofs.lemmas.List.Elements.{All-nil, All-cons, All-head, All-append, All-weaker}
 use Rattle.std.proofs.lemmas.Option.{slice_get-map, slice_get_within}
 use Rattle.std.proofs.Common.{sym, ap, ◌∙◌, arith, subst, inl, inr, ⊎_elim, get_or, append-nil}
 use Rattle.cs_base.specs.declared.link.Link.{Link}
@@ -11,32 +11,34 @@ use Rattle.cs_base.specs.declared.port_kind.PortKind.{PortKind}
 use Rattle.cs_base.specs.Plan.{End, kind_at}
 use Rattle.sb_message.specs.declared.message.Body.{Body}
 use Rattle.sb_message.specs.declared.message.Msg.{Msg}
+use Rattle.sb_message.specs.Receivable.{MayReceive}
 use Rattle.device_api.specs.Behaviour.{Reaction, Behaviour}
 use Rattle.device_api.specs.World.{Run, World, Event, arrivals, waiting_at, arrivals_for, react, followed_by, tick_if_due, after, slot, turn_of}
-use Rattle.global_model.specs.declared.agenda.Moment.{Moment}
-use Rattle.global_model.specs.declared.component.Component.{Component}
+use Rattle.moment_tree.specs.declared.agenda.Moment.{Moment}
+use Rattle.device_api.specs.declared.component.Component.{Component}
+use Rattle.moment_tree.specs.Places.{clock}
 use Rattle.global_model.specs.declared.routes.Route.{Route}
-use Rattle.global_model.specs.Agenda.{has, note_due, IsAfter}
-use Rattle.global_model.specs.Inboxes.{port_of, end_at}
-use Rattle.global_model.specs.Post.{events_along, moment_of, with_arrivals}
-use Rattle.global_model.specs.Places.{clock}
-use Rattle.global_model.proofs.Quiet.{clock_past, clock_low, clock_high, world_at}
+use Rattle.global_model.specs.Agenda.{has, IsNext}
+use Rattle.global_model.specs.Inboxes.{port_of, end_at, StartsFrom, IsSoonest}
+use Rattle.global_model.specs.Post.{events_along, note_all, with_arrivals}
+use Rattle.global_model.proofs.Quiet.{clock_at, clock_past, clock_low, clock_high}
+use Rattle.global_model.specs.UnderWay.{world_at, latency_at, IsHere, IsBox, IsAwake, component_of, IsUnderWay}
+use Rattle.global_model.proofs.AgendaLaws.{least, AllDue-set, has-set, has-set_other}
 use Rattle.global_model.proofs.ReactionLaws.{bodies_at, bodies_at-filter, take_ports}
-use Rattle.global_model.specs.Step.{network, moment_in, component_after, HasStepped}
+use Rattle.global_model.specs.Step.{network, moment_in, component_after, late_of, HasStepped}
 use Rattle.global_model.specs.Turn.{queue_in, queue_at, from_time, Rises, inputs_of, taken_before}
 use Rattle.global_model.proofs.TurnLaws.{queue_is, from_time-all}
-use Rattle.global_model.proofs.Ways.{latency_at}
 use Rattle.std.proofs.lemmas.List.{map-set}
 use Rattle.std.proofs.lemmas.List.Elements.{All-filter}
 use Rattle.device_api.specs.World.{ports_in, with_reaction}
-use Rattle.global_model.proofs.UnderWay.{IsHere, IsBox, IsAwake, IsToCome, component_of, IsUnderWay, rises_from, get_some, option_some, if_some_weaker, position_order}
-use Rattle.global_model.proofs.NextMoment.{least, ports_of, start_ports, queue_is_left, box_rises, kind_within, jumped}
+use Rattle.global_model.proofs.UnderWay.{IsToCome, rises_from, get_some, option_some, if_some_weaker, position_order}
+use Rattle.global_model.proofs.NextMoment.{ports_of, start_ports, queue_is_left, box_rises, kind_within, jumped}
 use Rattle.global_model.proofs.Sending.{IsSent, AreRoutes, events_same, events_sent, first_to_come, no_earlier}
-use Rattle.global_model.proofs.Arriving.{from_time_later, from_time-append, from_time_every, from_time_is, rises_part, rises_append, waiting_append, waiting_all, has-note_due, has-note_all, has-noted_all, due_noted, All-note_due, All-note_all, has_other}
+use Rattle.global_model.proofs.Arriving.{from_time_later, from_time-append, from_time_every, from_time_is, rises_part, rises_append, waiting_append, waiting_all, has-note_all, has-noted_all, AllDue-note_all, length-note_all}
 use Rattle.global_model.proofs.Nested.{get_set_same, get_set_other, equal_from_test, unequal_from_test}
 use Rattle.global_model.proofs.Quiet.{set_itself}
 
-kind_there : (kinds : List (List PortKind)) (e : End) → IsSome (kind_at kinds e) → (ports : List PortKind) × (slice_get kinds e.component ≡ Some ports) × (e.port < length ports)
+pub kind_there : (kinds : List (List PortKind)) (e : End) → IsSome (kind_at kinds e) → (ports : List PortKind) × (slice_get kinds e.component ≡ Some ports) × (e.port < length ports)
 kind_there kinds e there = at (slice_get kinds e.component) refl there
   where
     within : (ports : List PortKind) (found : Option PortKind) → slice_get ports e.port ≡ found → IsSome found → e.port < length ports
@@ -56,7 +58,7 @@ clock_other t c d ne = grind (arith, nat_tests)
 clock_own : (t c : ℕ) → clock t (c + 1) c ≡ t + 1
 clock_own t c = clock_past t (c + 1) c (omega arith)
 
-clock_mono : (t c t' c' d : ℕ) → (t < t') ⊎ ((t ≡ t') × (c ≤ c')) → clock t c d ≤ clock t' c' d
+pub clock_mono : (t c t' c' d : ℕ) → (t < t') ⊎ ((t ≡ t') × (c ≤ c')) → clock t c d ≤ clock t' c' d
 clock_mono t c t' c' d order = ⊎_elim (λ lt. (let high : clock t c d ≤ t + 1 = clock_high t c d in let low : t' ≤ clock t' c' d = clock_low t' c' d in omega arith)) (λ e. subst (λ u. clock t c d ≤ clock u c' d) e.0 (more_turns t c c' d e.1)) order
   where
     more_turns : (t c c' d : ℕ) → c ≤ c' → clock t c d ≤ clock t c' d
@@ -65,7 +67,33 @@ clock_mono t c t' c' d order = ⊎_elim (λ lt. (let high : clock t c d ≤ t + 
 below_test : (x n : ℕ) → x < n → nat_lt x n ≡ true
 below_test x n lt = grind (arith, nat_tests)
 
-module _ {S : Type 0} {b : Behaviour S} {settled : S → ℕ → Type 0} {end : ℕ} {kinds : List (List PortKind)} {links : List Link} {starts : List S} {routes : List (List (Option Route))} {t c : ℕ} {components : List (Component S)} {inboxes : List (List (List Msg))} {m : Moment} {later : List Moment} (under_way : IsUnderWay b settled end kinds links starts routes t c components inboxes (m ∷ later)) (others : All (IsAfter m) later) (component : Component S) (is : slice_get components m.component ≡ Some component) {components' : List (Component S)} {inboxes' : List (List (List Msg))} {agenda' : List Moment} (stepped : HasStepped b settled m.at m.component routes component components inboxes later components' inboxes' agenda') where
+-- a queue's messages are all at a time or later where its first is
+rises_least : (v low : ℕ) (queue : List Msg) → Rises low queue → StartsFrom v queue → All (λ (x : Msg). v ≤ x.at) queue
+rises_least v low [] rises starts = All-nil (λ (x : Msg). v ≤ x.at)
+rises_least v low (m ∷ more) rises starts = All-cons (λ (x : Msg). v ≤ x.at) m more starts (all_from more m.at rises.1 starts)
+  where
+    all_from : (queue : List Msg) (low : ℕ) → Rises low queue → v ≤ low → All (λ (x : Msg). v ≤ x.at) queue
+    all_from [] low rises le = All-nil (λ (x : Msg). v ≤ x.at)
+    all_from (x ∷ more) low rises le = let first : low ≤ x.at = rises.0 in All-cons (λ (y : Msg). v ≤ y.at) x more (omega arith) (all_from more x.at rises.1 (omega arith))
+
+starts_from : (low : ℕ) (queue : List Msg) → Rises low queue → StartsFrom low queue
+starts_from low [] rises = tt
+starts_from low (m ∷ more) rises = rises.0
+
+pub late_before : (due : Option ℕ) (next : ℕ) → next ≤ late_of due → IfSome due (λ u. next ≤ u)
+late_before None next le = tt
+late_before (Some u) next le = omega arith
+
+pub late_after : (t : ℕ) (due : Option ℕ) → t < 10 ^ 15 → IfSome due (λ u. t < u) → t + 1 ≤ late_of due
+late_after t None lt later = omega arith
+late_after t (Some u) lt later = omega arith
+
+-- what waits at a port: the port may receive it, and it arrives after at most the link's latency
+record IsFit (links : List Link) (ports : List PortKind) (e : End) (t : ℕ) (m : Msg) : Type 0 where
+  pub may : MayReceive ports e.port m.body
+  pub bounded : m.at ≤ t + latency_at links e
+
+module _ {S : Type 0} {b : Behaviour S} {settled : S → ℕ → Type 0} {end : ℕ} {kinds : List (List PortKind)} {links : List Link} {starts : List S} {routes : List (List (Option Route))} {t c : ℕ} {components : List (Component S)} {inboxes : List (List (List Msg))} {m : Moment} {agenda : List (Option ℕ)} (under_way : IsUnderWay b settled end kinds links starts routes t c components inboxes agenda) (next : IsNext m agenda) (component : Component S) (is : slice_get components m.component ≡ Some component) {components' : List (Component S)} {inboxes' : List (List (List Msg))} {noted agenda' : List (Option ℕ)} {soon : ℕ} (stepped : HasStepped b settled m.at m.component routes component components inboxes agenda components' inboxes' noted soon) (set : agenda' ≡ slice_set noted m.component (Some soon)) where
   -- what it sends, and the events that this makes
   abbrev sends : List (ℕ × Body)
   sends = (moment_in b m.at m.component inboxes component.device).sends
@@ -78,13 +106,13 @@ module _ {S : Type 0} {b : Behaviour S} {settled : S → ℕ → Type 0} {end : 
   before e = waiting_at e (world_at (network b starts links) t c).pending
 
   order : (t < m.at) ⊎ ((t ≡ m.at) × (c ≤ m.component))
-  order = position_order t c m.at m.component (first_to_come under_way others).not_before
+  order = position_order t c m.at m.component (first_to_come under_way next).not_before
 
   kinds_at : slice_get kinds m.component ≡ Some (b.ports component.device)
   kinds_at = ports_of under_way m.component component is
 
   same_world : world_at (network b starts links) m.at m.component ≡ world_at (network b starts links) t c
-  same_world = jumped under_way m.at m.component (least m later others) (let below : m.component < length starts = (first_to_come under_way others).in_range in omega arith) order
+  same_world = jumped under_way m.at m.component (least next) (let below : m.component < length starts = (first_to_come under_way next).in_range in omega arith) order
 
   -- the component's run
   the_run : (run : Run S) × (slice_get (world_at (network b starts links) t c).runs m.component ≡ Some run) × (component_of run ≡ component)
@@ -92,7 +120,7 @@ module _ {S : Type 0} {b : Behaviour S} {settled : S → ℕ → Type 0} {end : 
 
   port_counts : ports_in b (slice_get starts m.component) ≡ length (b.ports component.device)
   port_counts =
-      let start : (s : S) × (slice_get starts m.component ≡ Some s) = get_some starts m.component (first_to_come under_way others).in_range in
+      let start : (s : S) × (slice_get starts m.component ≡ Some s) = get_some starts m.component (first_to_come under_way next).in_range in
       ap (ports_in b) start.1 ∙ ap length (same_ports_at kinds m.component (b.ports start.0) (b.ports component.device) (start_ports under_way m.component start.0 start.1) kinds_at)
 
   -- the definition's reaction is the simulator's
@@ -100,7 +128,7 @@ module _ {S : Type 0} {b : Behaviour S} {settled : S → ℕ → Type 0} {end : 
   same_reaction s same_state =
       ap (λ n. react b m.at (arrivals m.at (λ p. waiting_at (end_at m.component p) (world_at (network b starts links) t c).pending) n) s) port_counts
       ∙ ap (λ (taken : Reaction S). followed_by taken (tick_if_due b m.at)) (take_ports b m.at (λ p. waiting_at (end_at m.component p) (world_at (network b starts links) t c).pending) (inputs_of inboxes m.component) (length (b.ports component.device)) (λ p lt.
-      sym (bodies_at-filter m.at (clock t c m.component) (first_to_come under_way others).not_before (waiting_at (end_at m.component p) (world_at (network b starts links) t c).pending))
+      sym (bodies_at-filter m.at (clock t c m.component) (first_to_come under_way next).not_before (waiting_at (end_at m.component p) (world_at (network b starts links) t c).pending))
       ∙ ap (bodies_at m.at) (sym (queue_is_left under_way (end_at m.component p) (b.ports component.device) kinds_at lt))) s)
       ∙ ap (λ x. react b m.at (arrivals m.at (inputs_of inboxes m.component) (length (b.ports component.device))) x) same_state
 
@@ -140,8 +168,34 @@ module _ {S : Type 0} {b : Behaviour S} {settled : S → ℕ → Type 0} {end : 
   all_sent : All (IsSent kinds links m.at) events
   all_sent = events_sent end kinds links under_way.plan routes m.component m.at (b.ports component.device) sends kinds_at are_routes stepped.whole.sendable
 
-  next_clock : ℕ → ℕ
-  next_clock d = clock m.at (m.component + 1) d
+  many : length kinds ≡ length starts
+  many = ap length (sym under_way.matches) ∙ length-map starts b.ports
+
+  below_all : m.component < length agenda
+  below_all = slice_get_within agenda m.component (Some m.at) next.there
+
+  events_within : All (λ (event : Event). event.to.component < length agenda) events
+  events_within = All-weaker (IsSent kinds links m.at) (λ (event : Event). event.to.component < length agenda) (λ event sent.
+      let there : (ports : List PortKind) × (slice_get kinds event.to.component ≡ Some ports) × (event.to.port < length ports) = kind_there kinds event.to (subst (λ o. IsSome o) (sym sent.at_port) refl) in
+      let below : event.to.component < length kinds = slice_get_within kinds event.to.component there.0 there.1 in
+      let roomy : length agenda ≡ length starts = under_way.roomy in
+      omega (arith, many, below)) events all_sent
+
+  events_noted : All (λ (event : Event). has event.time event.to.component (note_all events agenda) ≡ true) events
+  events_noted = has-noted_all events agenda events_within
+
+  -- what the agenda has now: of another component what was noted, of this one its first time
+  agenda_now : agenda' ≡ slice_set (note_all events agenda) m.component (Some soon)
+  agenda_now = set ∙ ap (λ xs. slice_set xs m.component (Some soon)) stepped.agenda_is
+
+  other_has : (u d : ℕ) → m.component ≢ d → has u d (note_all events agenda) ≡ true → has u d agenda' ≡ true
+  other_has u d ne there = ap (has u d) agenda_now ∙ has-set_other u m.component d (Some soon) (note_all events agenda) ne ∙ there
+
+  still_has : (u d : ℕ) → m.component ≢ d → has u d agenda ≡ true → has u d agenda' ≡ true
+  still_has u d ne there = other_has u d ne (has-note_all u d events agenda there)
+
+  own_has : (u : ℕ) → soon ≤ u → has u m.component agenda' ≡ true
+  own_has u le = ap (has u m.component) agenda_now ∙ has-set u m.component soon (note_all events agenda) (subst (λ n. m.component < n) (sym (length-note_all events agenda)) below_all) le
 
   -- what is left of a port's queue after the moment
   module _ (e : End) (ports : List PortKind) (ports_are : slice_get kinds e.component ≡ Some ports) (lt : e.port < length ports) where
@@ -169,7 +223,7 @@ module _ {S : Type 0} {b : Behaviour S} {settled : S → ℕ → Type 0} {end : 
         at false differs =
             let other : clock m.at (m.component + 1) e.component ≡ clock m.at m.component e.component = clock_other m.at m.component e.component (unequal_from_test m.component e.component differs) in
             queue_was
-            ∙ ap Some (sym (from_time-all (clock m.at m.component e.component) (clock m.at m.component e.component) (queue_at inboxes e) (omega arith) (box_rises under_way m.at m.component (least m later others) e ports ports_are lt)))
+            ∙ ap Some (sym (from_time-all (clock m.at m.component e.component) (clock m.at m.component e.component) (queue_at inboxes e) (omega arith) (box_rises under_way m.at m.component (least next) e ports ports_are lt)))
             ∙ ap (λ u. Some (from_time u (queue_at inboxes e))) (sym other)
 
     -- the queue is what was left and what was sent
@@ -189,33 +243,32 @@ module _ {S : Type 0} {b : Behaviour S} {settled : S → ℕ → Type 0} {end : 
         ∙ ap (λ xs. Some (from_time (clock m.at (m.component + 1) e.component) xs)) (sym (waiting_append e (world_at (network b starts links) t c).pending events))
         ∙ ap (λ xs. Some (from_time (clock m.at (m.component + 1) e.component) (waiting_at e xs))) (sym pending_now)
 
-    box : IsBox links (m ∷ later) ports e t (clock t c e.component) (queue_at inboxes e)
+    box : IsBox links agenda ports e t (clock t c e.component) (queue_at inboxes e)
     box = under_way.boxes e ports ports_are lt
 
-    still_covered : (u d : ℕ) → clock m.at (m.component + 1) d ≤ u → has u d (m ∷ later) ≡ true → has u d agenda' ≡ true
-    still_covered u d after_now there = subst (λ xs. has u d xs ≡ true) (sym stepped.agenda_is) (has-note_all u d events (note_due (b.due (moment_in b m.at m.component inboxes component.device).state) m.component later) (has-note_due u d (b.due (moment_in b m.at m.component inboxes component.device).state) m.component later (has_other u d m later after_now there)))
-
-    here_left : All (IsHere links agenda' ports e m.at) (from_time (clock m.at (m.component + 1) e.component) (queue_at inboxes e))
+    here_left : All (IsFit links ports e m.at) (from_time (clock m.at (m.component + 1) e.component) (queue_at inboxes e))
     here_left k d below =
-        let kept : IsHere links (m ∷ later) ports e t (get_or (from_time (clock m.at (m.component + 1) e.component) (queue_at inboxes e)) k d) = All-filter (λ (x : Msg). nat_le (clock m.at (m.component + 1) e.component) x.at) (IsHere links (m ∷ later) ports e t) (queue_at inboxes e) box.here k d below in
-        let late : clock m.at (m.component + 1) e.component ≤ (get_or (from_time (clock m.at (m.component + 1) e.component) (queue_at inboxes e)) k d).at = from_time_is (clock m.at (m.component + 1) e.component) (queue_at inboxes e) k d below in
+        let kept : IsHere links agenda ports e t (get_or (from_time (clock m.at (m.component + 1) e.component) (queue_at inboxes e)) k d) = All-filter (λ (x : Msg). nat_le (clock m.at (m.component + 1) e.component) x.at) (IsHere links agenda ports e t) (queue_at inboxes e) box.here k d below in
         let bound : (get_or (from_time (clock m.at (m.component + 1) e.component) (queue_at inboxes e)) k d).at ≤ t + latency_at links e = kept.bounded in
-        let early : t ≤ m.at = no_earlier under_way others in
-        record { may = kept.may; bounded = omega arith; covered = still_covered (get_or (from_time (clock m.at (m.component + 1) e.component) (queue_at inboxes e)) k d).at e.component late kept.covered }
+        let early : t ≤ m.at = no_earlier under_way next in
+        record { may = kept.may; bounded = omega arith }
 
-    -- what was sent to the port, with the agenda's moment of it
-    here_sent : All (IsHere links agenda' ports e m.at) (waiting_at e events)
+    here_sent : All (IsFit links ports e m.at) (waiting_at e events)
     here_sent =
-        let noted : All (λ (event : Event). has event.time event.to.component agenda' ≡ true) events = subst (λ xs. All (λ (event : Event). has event.time event.to.component xs ≡ true) events) (sym stepped.agenda_is) (has-noted_all events (note_due (b.due (moment_in b m.at m.component inboxes component.device).state) m.component later)) in
-        waiting_all (IsHere links agenda' ports e m.at) (λ (event : Event). IsSent kinds links m.at event × (has event.time event.to.component agenda' ≡ true)) e events (λ event sent to.
-        let kind : kind_at kinds e ≡ Some sent.0.kind = subst (λ x. kind_at kinds x ≡ Some sent.0.kind) to sent.0.at_port in
-        let at_port : slice_get ports e.port ≡ Some sent.0.kind = ap (option_and_then (λ xs. slice_get xs e.port)) (sym ports_are) ∙ kind in
-        let stamp : event.time ≡ m.at + latency_at links e = subst (λ x. event.time ≡ m.at + latency_at links x) to sent.0.stamped in
+        waiting_all (IsFit links ports e m.at) (IsSent kinds links m.at) e events (λ event sent to.
+        let kind : kind_at kinds e ≡ Some sent.kind = subst (λ x. kind_at kinds x ≡ Some sent.kind) to sent.at_port in
+        let at_port : slice_get ports e.port ≡ Some sent.kind = ap (option_and_then (λ xs. slice_get xs e.port)) (sym ports_are) ∙ kind in
+        let stamp : event.time ≡ m.at + latency_at links e = subst (λ x. event.time ≡ m.at + latency_at links x) to sent.stamped in
         record {
-          may = record { kind = sent.0.kind; at_port = at_port; fits = sent.0.fits; event = sent.0.is_event };
+          may = record { kind = sent.kind; at_port = at_port; fits = sent.fits; event = sent.is_event };
           bounded = omega arith;
-          covered = subst (λ (x : End). has event.time x.component agenda' ≡ true) to sent.1;
-        }) (λ k d below. (all_sent k d below, noted k d below))
+        }) all_sent
+
+    -- at another component's port the agenda has what it had and what was noted
+    covered_other : m.component ≢ e.component → All (λ (x : Msg). has x.at e.component agenda' ≡ true) (from_time (clock m.at (m.component + 1) e.component) (queue_at inboxes e) ++ waiting_at e events)
+    covered_other ne = All-append (λ (x : Msg). has x.at e.component agenda' ≡ true) (from_time (clock m.at (m.component + 1) e.component) (queue_at inboxes e)) (waiting_at e events)
+        (λ k d below. still_has (get_or (from_time (clock m.at (m.component + 1) e.component) (queue_at inboxes e)) k d).at e.component ne (All-filter (λ (x : Msg). nat_le (clock m.at (m.component + 1) e.component) x.at) (IsHere links agenda ports e t) (queue_at inboxes e) box.here k d below).covered)
+        (waiting_all (λ (x : Msg). has x.at e.component agenda' ≡ true) (λ event. has event.time event.to.component (note_all events agenda) ≡ true) e events (λ event there to. other_has event.time e.component ne (subst (λ (x : End). has event.time x.component (note_all events agenda) ≡ true) to there)) events_noted)
 
     stamps : All (λ (x : Msg). x.at ≡ m.at + latency_at links e) (waiting_at e events)
     stamps = waiting_all (λ (x : Msg). x.at ≡ m.at + latency_at links e) (IsSent kinds links m.at) e events (λ event sent to. subst (λ x. event.time ≡ m.at + latency_at links x) to sent.stamped) all_sent
@@ -231,7 +284,7 @@ module _ {S : Type 0} {b : Behaviour S} {settled : S → ℕ → Type 0} {end : 
     sent_after = waiting_all (λ (x : Msg). m.at + 1 ≤ x.at) (IsSent kinds links m.at) e events (λ event sent to. sent.later) all_sent
 
     left_bounded : All (λ (x : Msg). x.at ≤ m.at + latency_at links e) (from_time (clock m.at (m.component + 1) e.component) (queue_at inboxes e))
-    left_bounded = All-weaker (IsHere links agenda' ports e m.at) (λ (x : Msg). x.at ≤ m.at + latency_at links e) (λ x here. here.bounded) (from_time (clock m.at (m.component + 1) e.component) (queue_at inboxes e)) here_left
+    left_bounded = All-weaker (IsFit links ports e m.at) (λ (x : Msg). x.at ≤ m.at + latency_at links e) (λ x here. here.bounded) (from_time (clock m.at (m.component + 1) e.component) (queue_at inboxes e)) here_left
 
     left_rises : Rises (clock m.at (m.component + 1) e.component) (from_time (clock m.at (m.component + 1) e.component) (queue_at inboxes e))
     left_rises = rises_from (clock m.at (m.component + 1) e.component) (clock t c e.component) (from_time (clock m.at (m.component + 1) e.component) (queue_at inboxes e)) (rises_part (clock m.at (m.component + 1) e.component) (clock t c e.component) (queue_at inboxes e) box.rises) (from_time_is (clock m.at (m.component + 1) e.component) (queue_at inboxes e))
@@ -242,16 +295,27 @@ module _ {S : Type 0} {b : Behaviour S} {settled : S → ℕ → Type 0} {end : 
         (λ some. rises_append (clock m.at (m.component + 1) e.component) (m.at + latency_at links e) (from_time (clock m.at (m.component + 1) e.component) (queue_at inboxes e)) (waiting_at e events) (let high : clock m.at (m.component + 1) e.component ≤ m.at + 1 = clock_high m.at (m.component + 1) e.component in omega arith) left_rises left_bounded stamps)
         (some_latency (latency_at links e) sent_after stamps)
 
+    now_rises : Rises (clock m.at (m.component + 1) e.component) (queue_at inboxes' e)
+    now_rises = subst (Rises (clock m.at (m.component + 1) e.component)) (sym (ap queue_in queue_now)) all_rises
+
+    -- at its own ports the agenda has the first time
+    covered_own : m.component ≡ e.component → All (λ (x : Msg). has x.at e.component agenda' ≡ true) (queue_at inboxes' e)
+    covered_own same =
+        let same_ports : ports ≡ b.ports component.device = same_ports_at kinds e.component ports (b.ports component.device) ports_are (subst (λ d. slice_get kinds d ≡ Some (b.ports component.device)) same kinds_at) in
+        let below : e.port < length (b.ports component.device) = subst (λ xs. e.port < length xs) same_ports lt in
+        let first : StartsFrom soon (queue_at inboxes' e) = subst (λ d. StartsFrom soon (queue_at inboxes' (end_at d e.port))) same (stepped.soonest.heads e.port below) in
+        All-weaker (λ (x : Msg). soon ≤ x.at) (λ (x : Msg). has x.at e.component agenda' ≡ true) (λ x le. subst (λ d. has x.at d agenda' ≡ true) same (own_has x.at le)) (queue_at inboxes' e) (rises_least soon (clock m.at (m.component + 1) e.component) (queue_at inboxes' e) now_rises first)
+
+    covered_now : All (λ (x : Msg). has x.at e.component agenda' ≡ true) (queue_at inboxes' e)
+    covered_now = ⊎_elim covered_own (λ ne. subst (All (λ (x : Msg). has x.at e.component agenda' ≡ true)) (sym (ap queue_in queue_now)) (covered_other ne)) (cases_eq m.component e.component)
+
+    fit_now : All (IsFit links ports e m.at) (queue_at inboxes' e)
+    fit_now = subst (All (IsFit links ports e m.at)) (sym (ap queue_in queue_now)) (All-append (IsFit links ports e m.at) (from_time (clock m.at (m.component + 1) e.component) (queue_at inboxes e)) (waiting_at e events) here_left here_sent)
+
     box_now : IsBox links agenda' ports e m.at (clock m.at (m.component + 1) e.component) (queue_at inboxes' e)
-    box_now = subst (IsBox links agenda' ports e m.at (clock m.at (m.component + 1) e.component)) (sym (ap queue_in queue_now)) (record {
-      rises = all_rises;
-      here = All-append (IsHere links agenda' ports e m.at) (from_time (clock m.at (m.component + 1) e.component) (queue_at inboxes e)) (waiting_at e events) here_left here_sent;
-    })
+    box_now = record { rises = now_rises; here = λ k d below. record { may = (fit_now k d below).may; bounded = (fit_now k d below).bounded; covered = covered_now k d below } }
 
   -- the devices
-  kept_noted : (u d : ℕ) → clock m.at (m.component + 1) d ≤ u → has u d (m ∷ later) ≡ true → has u d agenda' ≡ true
-  kept_noted u d after_now there = subst (λ xs. has u d xs ≡ true) (sym stepped.agenda_is) (has-note_all u d events (note_due (b.due (moment_in b m.at m.component inboxes component.device).state) m.component later) (has-note_due u d (b.due (moment_in b m.at m.component inboxes component.device).state) m.component later (has_other u d m later after_now there)))
-
   awake_now : (d : ℕ) (x : Component S) → slice_get components' d ≡ Some x → IsAwake b settled m.at d agenda' x
   awake_now d x found = at (m.component == d) refl
     where
@@ -266,37 +330,31 @@ module _ {S : Type 0} {b : Behaviour S} {settled : S → ℕ → Type 0} {end : 
           let here : m.component ≡ d = equal_from_test m.component d same in
           let is_it : Some (component_after m.at component (moment_in b m.at m.component inboxes component.device)) ≡ Some x = sym (get_set_same components m.component (component_after m.at component (moment_in b m.at m.component inboxes component.device)) within) ∙ subst (λ n. slice_get (slice_set components m.component (component_after m.at component (moment_in b m.at m.component inboxes component.device))) n ≡ Some x) (sym here) found_in in
           let it : component_after m.at component (moment_in b m.at m.component inboxes component.device) ≡ x = cc in
-          let due : IfSome (b.due (moment_in b m.at m.component inboxes component.device).state) (λ u. has u m.component agenda' ≡ true) = if_some_weaker (λ u. has u m.component (note_due (b.due (moment_in b m.at m.component inboxes component.device).state) m.component later) ≡ true) (λ u. has u m.component agenda' ≡ true) (b.due (moment_in b m.at m.component inboxes component.device).state) (λ u noted. subst (λ xs. has u m.component xs ≡ true) (sym stepped.agenda_is) (has-note_all u m.component events (note_due (b.due (moment_in b m.at m.component inboxes component.device).state) m.component later) noted)) (due_noted (b.due (moment_in b m.at m.component inboxes component.device).state) m.component later) in
+          let due : IfSome (b.due (moment_in b m.at m.component inboxes component.device).state) (λ u. has u m.component agenda' ≡ true) = if_some_weaker (λ u. soon ≤ u) (λ u. has u m.component agenda' ≡ true) (b.due (moment_in b m.at m.component inboxes component.device).state) own_has (late_before (b.due (moment_in b m.at m.component inboxes component.device).state) soon stepped.soonest.at_most) in
           subst (λ n. IsAwake b settled m.at n agenda' x) here (subst (IsAwake b settled m.at m.component agenda') it (record { settled_then = stepped.whole.settled_after; due_noted = due }))
       at false differs =
           let ne : m.component ≢ d = unequal_from_test m.component d differs in
           let before_it : slice_get components d ≡ Some x = sym (get_set_other components m.component d (component_after m.at component (moment_in b m.at m.component inboxes component.device)) ne) ∙ found_in in
-          let was : IsAwake b settled t d (m ∷ later) x = under_way.awake d x before_it in
-          let other : clock m.at (m.component + 1) d ≡ clock m.at m.component d = clock_other m.at m.component d ne in
+          let was : IsAwake b settled t d agenda x = under_way.awake d x before_it in
           record {
-            settled_then = under_way.lawful.settled_later x.device (t + 1) (m.at + 1) was.settled_then (let early : t ≤ m.at = no_earlier under_way others in omega arith);
-            due_noted = if_some_weaker (λ u. has u d (m ∷ later) ≡ true) (λ u. has u d agenda' ≡ true) (b.due x.device) (λ u there. kept_noted u d (let le : clock m.at m.component d ≤ u = least m later others u d there in omega arith) there) was.due_noted;
+            settled_then = (under_way.lawful.at x.device).settled_later (t + 1) (m.at + 1) was.settled_then (let early : t ≤ m.at = no_earlier under_way next in omega arith);
+            due_noted = if_some_weaker (λ u. has u d agenda ≡ true) (λ u. has u d agenda' ≡ true) (b.due x.device) (λ u there. still_has u d ne there) was.due_noted;
           }
 
-  to_come_now : All (IsToCome m.at (m.component + 1) (length starts)) agenda'
-  to_come_now = subst (All (IsToCome m.at (m.component + 1) (length starts))) (sym stepped.agenda_is) (All-note_all (IsToCome m.at (m.component + 1) (length starts)) events (note_due (b.due (moment_in b m.at m.component inboxes component.device).state) m.component later) of_events (All-note_due (IsToCome m.at (m.component + 1) (length starts)) (b.due (moment_in b m.at m.component inboxes component.device).state) m.component later of_due of_others))
-    where
-      many : length kinds ≡ length starts
-      many = ap length (sym under_way.matches) ∙ length-map starts b.ports
+  -- no time of the agenda is before the next place
+  own_later : m.at < end → m.at + 1 ≤ soon
+  own_later before_end =
+      let short : end ≤ 10 ^ 15 = under_way.plan.sized.short_time in
+      let in_run : m.at < 10 ^ 15 = omega arith in
+      stepped.soonest.low (m.at + 1) (late_after m.at (b.due (moment_in b m.at m.component inboxes component.device).state) in_run stepped.whole.later) (λ p lt. starts_from (m.at + 1) (queue_at inboxes' (end_at m.component p)) (subst (λ x. Rises x (queue_at inboxes' (end_at m.component p))) (clock_own m.at m.component) (now_rises (end_at m.component p) (b.ports component.device) kinds_at lt)))
 
-      of_others : All (IsToCome m.at (m.component + 1) (length starts)) later
-      of_others k d below = record { not_before = others k d below; in_range = (All-tail (IsToCome t c (length starts)) m later under_way.to_come k d below).in_range }
+  noted_later : (d u : ℕ) → slice_get (note_all events agenda) d ≡ Some (Some u) → m.component ≢ d → clock m.at (m.component + 1) d ≤ u
+  noted_later = AllDue-note_all (λ d u. m.component ≢ d → clock m.at (m.component + 1) d ≤ u) events agenda
+      (All-weaker (IsSent kinds links m.at) (λ (event : Event). m.component ≢ event.to.component → clock m.at (m.component + 1) event.to.component ≤ event.time) (λ event sent ne. (let high : clock m.at (m.component + 1) event.to.component ≤ m.at + 1 = clock_high m.at (m.component + 1) event.to.component in let after_now : m.at + 1 ≤ event.time = sent.later in omega arith)) events all_sent)
+      (λ d u found ne. (let other : clock m.at (m.component + 1) d ≡ clock m.at m.component d = clock_other m.at m.component d ne in let first : clock m.at m.component d ≤ u = next.first d u found in omega arith))
 
-      of_due : IfSome (b.due (moment_in b m.at m.component inboxes component.device).state) (λ u. IsToCome m.at (m.component + 1) (length starts) (record { at = u; component = m.component }))
-      of_due = if_some_weaker (λ u. m.at < u) (λ u. IsToCome m.at (m.component + 1) (length starts) (record { at = u; component = m.component })) (b.due (moment_in b m.at m.component inboxes component.device).state) (λ u lt. record { not_before = (let own : clock m.at (m.component + 1) m.component ≡ m.at + 1 = clock_own m.at m.component in omega arith); in_range = (first_to_come under_way others).in_range }) stepped.whole.later
-
-      of_events : All (λ (event : Event). IsToCome m.at (m.component + 1) (length starts) (moment_of event)) events
-      of_events = All-weaker (IsSent kinds links m.at) (λ (event : Event). IsToCome m.at (m.component + 1) (length starts) (moment_of event)) (λ event sent.
-          let there : (ports : List PortKind) × (slice_get kinds event.to.component ≡ Some ports) × (event.to.port < length ports) = kind_there kinds event.to (subst (λ o. IsSome o) (sym sent.at_port) refl) in
-          let below : event.to.component < length kinds = slice_get_within kinds event.to.component there.0 there.1 in
-          let high : clock m.at (m.component + 1) event.to.component ≤ m.at + 1 = clock_high m.at (m.component + 1) event.to.component in
-          let after_now : m.at + 1 ≤ event.time = sent.later in
-          record { not_before = omega arith; in_range = omega (arith, many, below) }) events all_sent
+  to_come_now : m.at < end → (d u : ℕ) → slice_get agenda' d ≡ Some (Some u) → clock m.at (m.component + 1) d ≤ u
+  to_come_now before_end d u found = AllDue-set (λ d u. clock m.at (m.component + 1) d ≤ u) m.component soon (note_all events agenda) (let own : clock m.at (m.component + 1) m.component ≡ m.at + 1 = clock_own m.at m.component in let later : m.at + 1 ≤ soon = own_later before_end in omega arith) noted_later d u (ap (λ xs. slice_get xs d) (sym agenda_now) ∙ found)
 
   -- the run is under way at the next place
   pub next_place : m.at < end → IsUnderWay b settled end kinds links starts routes m.at (m.component + 1) components' inboxes' agenda'
@@ -305,12 +363,13 @@ module _ {S : Type 0} {b : Behaviour S} {settled : S → ℕ → Type 0} {end : 
     plan = under_way.plan;
     matches = under_way.matches;
     routed = under_way.routed;
-    within = before_end;
-    in_range = (let below : m.component < length starts = (first_to_come under_way others).in_range in omega arith);
+    within = inl before_end;
+    in_range = (let below : m.component < length starts = (first_to_come under_way next).in_range in omega arith);
     components_are = components_now;
     ports_same = ports_now;
     queues = λ e there. (let port : (ports : List PortKind) × (slice_get kinds e.component ≡ Some ports) × (e.port < length ports) = kind_there kinds e there in queues_now e port.0 port.1 port.2);
     boxes = λ e ports ports_are lt. box_now e ports ports_are lt;
     awake = awake_now;
-    to_come = to_come_now;
+    roomy = ap length agenda_now ∙ length-set (note_all events agenda) m.component (Some soon) ∙ length-note_all events agenda ∙ under_way.roomy;
+    to_come = to_come_now before_end;
   }

@@ -1,86 +1,114 @@
-use Rattle.std.specs.Prelude.{ℕ, ◌≡◌, ◌==◌, ◌+◌, ◌≤◌, Bool, true, false, ◌&&◌, ◌||◌, List, [], ◌∷◌, All, refl}
-use Rattle.std.specs.declared.cmp.Ordering.{Ordering}
-use Rattle.std.specs.declared.cmp.Ordering.TheVariants.{Less, Equal, Greater}
-use Rattle.std.specs.Ordering.{nat_cmp, ordering_then, match_ordering}
-use Rattle.std.specs.BTreeMap.Range.{IsLtBy}
-use Rattle.std.proofs.lemmas.Bool.{false≢true}
+-- What the agenda has, and what it has after a time was noted or set.
+use Rattle.std.specs.Prelude.{ℕ, suc, zero, ◌≡◌, ◌≢◌, ◌+◌, ◌≤◌, ◌<◌, ◌⊎◌, nat_le, min, Bool, true, false, List, [], ◌∷◌, length, Option, Some, None, slice_get, slice_set, slice_index_or, refl}
+use Rattle.std.proofs.lemmas.Bool.{false≢true, cases_eq, cases_lt}
 use Rattle.std.proofs.lemmas.Bool.Decides.{nat_tests}
-use Rattle.std.proofs.lemmas.List.Elements.{All-cons, All-head, All-tail}
-use Rattle.std.proofs.Common.{sym, arith, subst}
-use Rattle.global_model.specs.declared.agenda.Moment.{Moment}
-use Rattle.global_model.specs.Places.{clock}
-use Rattle.global_model.proofs.Nested.{equal_from_test}
-use Rattle.global_model.specs.Agenda.{moment_cmp, note, has, IsAfter}
+use Rattle.std.proofs.lemmas.List.{length-set}
+use Rattle.std.proofs.lemmas.Option.{slice_get-get_or, slice_get_within, get_or_from_slice_get}
+use Rattle.std.proofs.Common.{sym, ap, ◌∙◌, arith, subst, ⊎_elim, get_or-set_same, get_or-set_other}
+use Rattle.moment_tree.specs.declared.agenda.Moment.{Moment}
+use Rattle.moment_tree.specs.Dues.{sooner}
+use Rattle.moment_tree.specs.Places.{clock}
+use Rattle.global_model.specs.Agenda.{covers, has, note, IsNext}
+use Rattle.global_model.proofs.Nested.{get_set_same, get_set_other}
 
-or_false : (a b : Bool) → (a || b) ≡ true → a ≡ false → b ≡ true
-or_false true b is no_a = absurd (false≢true (sym no_a))
-or_false false b is no_a = is
+le_of : (u t : ℕ) → nat_le u t ≡ true → u ≤ t
+le_of u t is = grind (arith, nat_tests)
 
-or_right : (a b : Bool) → b ≡ true → (a || b) ≡ true
-or_right true b is = refl
-or_right false b is = is
+test_of : (u t : ℕ) → u ≤ t → nat_le u t ≡ true
+test_of u t le = grind (arith, nat_tests)
 
-or_left : (a b : Bool) → a ≡ true → (a || b) ≡ true
-or_left true b is = refl
-or_left false b is = absurd (false≢true is)
-
-or_step : (a b c : Bool) → (a || b) ≡ true → (b ≡ true → c ≡ true) → (a || c) ≡ true
-or_step true b c is step = refl
-or_step false b c is step = step is
-
-both_true : (a b : Bool) → (a && b) ≡ true → (a ≡ true) × (b ≡ true)
-both_true true b is = (refl, is)
-both_true false b is = absurd (false≢true is)
-
-same_test : (x y : ℕ) → ((x == x) && (y == y)) ≡ true
-same_test x y = grind (arith, nat_tests)
-
-cmp_equal : (a b c d : ℕ) → ordering_then (nat_cmp a b) (nat_cmp c d) ≡ Equal → ((b == a) && (d == c)) ≡ true
-cmp_equal a b c d is = grind (arith, nat_tests)
-
-cmp_less : (a b c d : ℕ) → ordering_then (nat_cmp a b) (nat_cmp c d) ≡ Less → clock a (c + 1) d ≤ b
-cmp_less a b c d is = grind (arith, nat_tests)
-
--- what the agenda has it keeps
-pub has-note : (t c : ℕ) (m : Moment) (ms : List Moment) → has t c ms ≡ true → has t c (note m ms) ≡ true
-has-note t c m [] there = absurd (false≢true there)
-has-note t c m (x ∷ ms) there = at (moment_cmp m x) (has-note t c m ms)
+-- a component whose time is there
+pub has_some : (t c : ℕ) (dues : List (Option ℕ)) → has t c dues ≡ true → (u : ℕ) × (slice_get dues c ≡ Some (Some u)) × (u ≤ t)
+has_some t c dues there = ⊎_elim inside (λ ge. outside (past dues c ge)) (cases_lt c (length dues))
   where
-    at : (o : Ordering) → (has t c ms ≡ true → has t c (note m ms) ≡ true) → has t c (match_ordering o (m ∷ x ∷ ms) (x ∷ ms) (x ∷ note m ms)) ≡ true
-    at Less more = or_right ((m.at == t) && (m.component == c)) (has t c (x ∷ ms)) there
-    at Equal more = there
-    at Greater more = or_step ((x.at == t) && (x.component == c)) (has t c ms) (has t c (note m ms)) there more
+    past : (xs : List (Option ℕ)) (i : ℕ) → length xs ≤ i → slice_index_or xs i None ≡ None
+    past [] i le = refl
+    past (x ∷ xs) zero le = absurd (omega arith)
+    past (x ∷ xs) (suc i) le = past xs i (omega arith)
 
--- and it has what was added
-pub has-noted : (m : Moment) (ms : List Moment) → has m.at m.component (note m ms) ≡ true
-has-noted m [] = or_left ((m.at == m.at) && (m.component == m.component)) false (same_test m.at m.component)
-has-noted m (x ∷ ms) = at (moment_cmp m x) refl (has-noted m ms)
+    outside : slice_index_or dues c None ≡ None → (u : ℕ) × (slice_get dues c ≡ Some (Some u)) × (u ≤ t)
+    outside is = absurd (false≢true (ap (covers t) (sym is) ∙ there))
+
+    inside : c < length dues → (u : ℕ) × (slice_get dues c ≡ Some (Some u)) × (u ≤ t)
+    inside lt = at (slice_index_or dues c None) (slice_get-get_or dues c None lt) there
+      where
+        at : (due : Option ℕ) → slice_get dues c ≡ Some due → covers t due ≡ true → (u : ℕ) × (slice_get dues c ≡ Some (Some u)) × (u ≤ t)
+        at None is covered = absurd (false≢true covered)
+        at (Some u) is covered = (u, is, le_of u t covered)
+
+pub some_has : (t c u : ℕ) (dues : List (Option ℕ)) → slice_get dues c ≡ Some (Some u) → u ≤ t → has t c dues ≡ true
+some_has t c u dues is le = ap (covers t) (get_or_from_slice_get dues c (Some u) None is) ∙ test_of u t le
+
+-- no moment of the agenda is before its first
+pub least : {m : Moment} {dues : List (Option ℕ)} → IsNext m dues → (u d : ℕ) → has u d dues ≡ true → clock m.at m.component d ≤ u
+least {m} {dues} next u d there =
+    let found : (w : ℕ) × (slice_get dues d ≡ Some (Some w)) × (w ≤ u) = has_some u d dues there in
+    let le : clock m.at m.component d ≤ found.0 = next.first d found.0 found.1 in
+    let more : found.0 ≤ u = found.2 in
+    omega arith
+
+-- outside the range nothing is set
+set_past : {X : Type 0} (xs : List X) (i : ℕ) (x : X) → length xs ≤ i → slice_set xs i x ≡ xs
+set_past [] i x le = refl
+set_past (y ∷ ys) zero x le = absurd (omega arith)
+set_past (y ∷ ys) (suc i) x le = ap (λ zs. y ∷ zs) (set_past ys i x (omega arith))
+
+-- WHAT WAS SET
+
+pub has-set_other : (t c d : ℕ) (due : Option ℕ) (dues : List (Option ℕ)) → c ≢ d → has t d (slice_set dues c due) ≡ has t d dues
+has-set_other t c d due dues ne = ap (covers t) (get_or-set_other dues c d due None (λ e. ne (sym e)))
+
+pub has-set : (t c u : ℕ) (dues : List (Option ℕ)) → c < length dues → u ≤ t → has t c (slice_set dues c (Some u)) ≡ true
+has-set t c u dues lt le = ap (covers t) (get_or-set_same dues c (Some u) None lt) ∙ test_of u t le
+
+-- what is noted, and what the agenda had, it has
+pub has-noted : (t c : ℕ) (dues : List (Option ℕ)) → c < length dues → has t c (note t c dues) ≡ true
+has-noted t c dues lt = has-set t c (sooner t (slice_index_or dues c None)) dues lt (first t (slice_index_or dues c None))
   where
-    at : (o : Ordering) → moment_cmp m x ≡ o → has m.at m.component (note m ms) ≡ true → has m.at m.component (match_ordering o (m ∷ x ∷ ms) (x ∷ ms) (x ∷ note m ms)) ≡ true
-    at Less is more = or_left ((m.at == m.at) && (m.component == m.component)) (has m.at m.component (x ∷ ms)) (same_test m.at m.component)
-    at Equal is more = or_left ((x.at == m.at) && (x.component == m.component)) (has m.at m.component ms) (cmp_equal m.at x.at m.component x.component is)
-    at Greater is more = or_right ((x.at == m.at) && (x.component == m.component)) (has m.at m.component (note m ms)) more
+    first : (t : ℕ) (due : Option ℕ) → sooner t due ≤ t
+    first t None = omega arith
+    first t (Some u) = omega arith
 
-pub All-note : (P : Moment → Type 0) (m : Moment) (ms : List Moment) → P m → All P ms → All P (note m ms)
-All-note P m [] p all = All-cons P m [] p all
-All-note P m (x ∷ ms) p all = at (moment_cmp m x) (All-note P m ms p (All-tail P x ms all))
+pub has-note : (t c at d : ℕ) (dues : List (Option ℕ)) → has t c dues ≡ true → has t c (note at d dues) ≡ true
+has-note t c at d dues there = ⊎_elim (λ e. subst (λ x. has t c (note at x dues) ≡ true) (sym e) same) (λ ne. has-set_other t d c (Some (sooner at (slice_index_or dues d None))) dues ne ∙ there) (cases_eq d c)
   where
-    at : (o : Ordering) → All P (note m ms) → All P (match_ordering o (m ∷ x ∷ ms) (x ∷ ms) (x ∷ note m ms))
-    at Less more = All-cons P m (x ∷ ms) p all
-    at Equal more = all
-    at Greater more = All-cons P x (note m ms) (All-head P x ms all) more
+    same : has t c (note at c dues) ≡ true
+    same =
+        let found : (u : ℕ) × (slice_get dues c ≡ Some (Some u)) × (u ≤ t) = has_some t c dues there in
+        let is : slice_index_or dues c None ≡ Some found.0 = get_or_from_slice_get dues c (Some found.0) None found.1 in
+        let le : found.0 ≤ t = found.2 in
+        has-set t c (sooner at (slice_index_or dues c None)) dues (slice_get_within dues c (Some found.0) found.1) (subst (λ due. sooner at due ≤ t) (sym is) (omega arith))
 
--- what holds of each moment holds of one that is there
-pub All-has : (P : Moment → Type 0) (t c : ℕ) (ms : List Moment) → All P ms → has t c ms ≡ true → P (record { at = t; component = c })
-All-has P t c [] all there = absurd (false≢true there)
-All-has P t c (x ∷ ms) all there = at ((x.at == t) && (x.component == c)) refl there (λ is. All-has P t c ms (All-tail P x ms all) is)
+-- WHAT HOLDS OF ALL MOMENTS
+
+abbrev pub AllDue : (ℕ → ℕ → Type 0) → List (Option ℕ) → Type 0
+AllDue P dues = (d u : ℕ) → slice_get dues d ≡ Some (Some u) → P d u
+
+-- where a component's time is set, only the others' matter
+pub AllDue-set : (P : ℕ → ℕ → Type 0) (c t : ℕ) (dues : List (Option ℕ)) → P c t → AllDue (λ d u. c ≢ d → P d u) dues → AllDue P (slice_set dues c (Some t))
+AllDue-set P c t dues here others = λ d u is. ⊎_elim (λ e. subst (λ x. P x u) e (own u (subst (λ x. slice_get (slice_set dues c (Some t)) x ≡ Some (Some u)) (sym e) is))) (λ ne. others d u (sym (get_set_other dues c d (Some t) ne) ∙ is) ne) (cases_eq c d)
   where
-    at : (here : Bool) → ((x.at == t) && (x.component == c)) ≡ here → (here || has t c ms) ≡ true → (has t c ms ≡ true → P (record { at = t; component = c })) → P (record { at = t; component = c })
-    at true is some more =
-        let both : ((x.at == t) ≡ true) × ((x.component == c) ≡ true) = both_true (x.at == t) (x.component == c) is in
-        subst (λ n. P (record { at = n; component = c })) (equal_from_test x.at t both.0) (subst (λ n. P (record { at = x.at; component = n })) (equal_from_test x.component c both.1) (All-head P x ms all))
-    at false is some more = more some
+    own : (u : ℕ) → slice_get (slice_set dues c (Some t)) c ≡ Some (Some u) → P c u
+    own u is =
+        let within : c < length dues = subst (λ n. c < n) (length-set dues c (Some t)) (slice_get_within (slice_set dues c (Some t)) c (Some u) is) in
+        let both : Some (Some t) ≡ Some (Some u) = sym (get_set_same dues c (Some t) within) ∙ is in
+        let same : t ≡ u = cc in
+        subst (P c) same here
 
--- a lesser moment comes before
-pub IsAfter-less : (m x : Moment) → IsLtBy moment_cmp m x → IsAfter m x
-IsAfter-less m x less = cmp_less m.at x.at m.component x.component less
+pub AllDue-note : (P : ℕ → ℕ → Type 0) (t c : ℕ) (dues : List (Option ℕ)) → P c t → AllDue P dues → AllDue P (note t c dues)
+AllDue-note P t c dues here all = λ d u is.
+    let within : c < length dues → P c (sooner t (slice_index_or dues c None)) = λ lt. first (slice_index_or dues c None) (slice_get-get_or dues c None lt) in
+    ⊎_elim (λ lt. AllDue-set P c (sooner t (slice_index_or dues c None)) dues (within lt) (λ d u found ne. all d u found) d u is) (λ ge. all d u (sym (ap (λ xs. slice_get xs d) (set_past dues c (Some (sooner t (slice_index_or dues c None))) ge)) ∙ is)) (cases_lt c (length dues))
+  where
+    lesser : (u : ℕ) → P c u → (min t u ≡ t) ⊎ (min t u ≡ u) → P c (min t u)
+    lesser u there which = ⊎_elim (λ e. subst (P c) (sym e) here) (λ e. subst (P c) (sym e) there) which
+
+    which : (t u : ℕ) → (min t u ≡ t) ⊎ (min t u ≡ u)
+    which t u = grind arith
+
+    first : (due : Option ℕ) → slice_get dues c ≡ Some due → P c (sooner t due)
+    first None is = here
+    first (Some u) is = lesser u (all c u is) (which t u)
+
+pub length-note : (t c : ℕ) (dues : List (Option ℕ)) → length (note t c dues) ≡ length dues
+length-note t c dues = length-set dues c (Some (sooner t (slice_index_or dues c None)))

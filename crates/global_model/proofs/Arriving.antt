@@ -1,21 +1,18 @@
 -- What queues and the agenda have after events were sent.
-use Rattle.std.specs.Prelude.{ℕ, ◌≡◌, ◌==◌, ◌+◌, ◌≤◌, nat_le, Bool, true, false, ◌&&◌, ◌||◌, List, [], ◌∷◌, ◌++◌, map, filter, Option, Some, None, IfSome, All, refl}
+use Rattle.std.specs.Prelude.{ℕ, ◌≡◌, ◌==◌, ◌+◌, ◌≤◌, ◌<◌, nat_le, Bool, true, false, ◌&&◌, ◌||◌, List, [], ◌∷◌, ◌++◌, length, map, filter, Option, Some, None, IfSome, All, refl}
 use Rattle.std.proofs.lemmas.Bool.{false≢true}
 use Rattle.std.proofs.lemmas.Bool.Decides.{nat_tests}
 use Rattle.std.proofs.lemmas.List.{map-append}
 use Rattle.std.proofs.lemmas.List.Elements.{All-nil, All-cons, All-head, All-tail, filter-append}
-use Rattle.std.proofs.Common.{sym, ap, ◌∙◌, arith, cond}
+use Rattle.std.proofs.Common.{sym, ap, ◌∙◌, arith, subst, cond}
 use Rattle.cs_base.specs.Plan.{End, same_end}
 use Rattle.sb_message.specs.declared.message.Msg.{Msg}
 use Rattle.device_api.specs.World.{Event, waiting_at, after}
-use Rattle.global_model.specs.declared.agenda.Moment.{Moment}
-use Rattle.global_model.specs.Agenda.{has, note, note_due}
-use Rattle.global_model.specs.Post.{moment_of, note_all}
-use Rattle.global_model.specs.Places.{clock}
-use Rattle.global_model.proofs.Quiet.{clock_past}
+use Rattle.global_model.specs.Agenda.{has, note}
+use Rattle.global_model.specs.Post.{note_all}
 use Rattle.global_model.specs.Turn.{from_time, Rises}
-use Rattle.global_model.proofs.AgendaLaws.{has-note, has-noted, All-note}
-use Rattle.global_model.proofs.Nested.{equal_from_test, same_end_is}
+use Rattle.global_model.proofs.AgendaLaws.{has-note, has-noted, AllDue, AllDue-note, length-note}
+use Rattle.global_model.proofs.Nested.{same_end_is}
 
 -- QUEUES
 
@@ -86,41 +83,22 @@ waiting_all P Q e (event ∷ more) gives all = at (same_end event.to e) refl (wa
 
 -- THE AGENDA
 
-pub has-note_due : (t c : ℕ) (due : Option ℕ) (d : ℕ) (ms : List Moment) → has t c ms ≡ true → has t c (note_due due d ms) ≡ true
-has-note_due t c None d ms there = there
-has-note_due t c (Some u) d ms there = has-note t c (record { at = u; component = d }) ms there
-
-pub has-note_all : (t c : ℕ) (events : List Event) (ms : List Moment) → has t c ms ≡ true → has t c (note_all events ms) ≡ true
+pub has-note_all : (t c : ℕ) (events : List Event) (dues : List (Option ℕ)) → has t c dues ≡ true → has t c (note_all events dues) ≡ true
 unfolding note_all
-has-note_all t c [] ms there = there
-has-note_all t c (event ∷ more) ms there = has-note_all t c more (note (moment_of event) ms) (has-note t c (moment_of event) ms there)
+has-note_all t c [] dues there = there
+has-note_all t c (event ∷ more) dues there = has-note_all t c more (note event.time event.to.component dues) (has-note t c event.time event.to.component dues there)
 
-pub has-noted_all : (events : List Event) (ms : List Moment) → All (λ (event : Event). has event.time event.to.component (note_all events ms) ≡ true) events
+pub has-noted_all : (events : List Event) (dues : List (Option ℕ)) → All (λ (event : Event). event.to.component < length dues) events → All (λ (event : Event). has event.time event.to.component (note_all events dues) ≡ true) events
 unfolding note_all
-has-noted_all [] ms = All-nil (λ (event : Event). has event.time event.to.component ms ≡ true)
-has-noted_all (event ∷ more) ms = All-cons (λ (x : Event). has x.time x.to.component (note_all more (note (moment_of event) ms)) ≡ true) event more (has-note_all event.time event.to.component more (note (moment_of event) ms) (has-noted (moment_of event) ms)) (has-noted_all more (note (moment_of event) ms))
+has-noted_all [] dues within = All-nil (λ (event : Event). has event.time event.to.component dues ≡ true)
+has-noted_all (event ∷ more) dues within = All-cons (λ (x : Event). has x.time x.to.component (note_all more (note event.time event.to.component dues)) ≡ true) event more (has-note_all event.time event.to.component more (note event.time event.to.component dues) (has-noted event.time event.to.component dues (All-head (λ (x : Event). x.to.component < length dues) event more within))) (has-noted_all more (note event.time event.to.component dues) (subst (λ n. All (λ (x : Event). x.to.component < n) more) (sym (length-note event.time event.to.component dues)) (All-tail (λ (x : Event). x.to.component < length dues) event more within)))
 
-pub due_noted : (due : Option ℕ) (c : ℕ) (ms : List Moment) → IfSome due (λ u. has u c (note_due due c ms) ≡ true)
-due_noted None c ms = tt
-due_noted (Some u) c ms = has-noted (record { at = u; component = c }) ms
-
-pub All-note_due : (P : Moment → Type 0) (due : Option ℕ) (c : ℕ) (ms : List Moment) → IfSome due (λ u. P (record { at = u; component = c })) → All P ms → All P (note_due due c ms)
-All-note_due P None c ms p all = all
-All-note_due P (Some u) c ms p all = All-note P (record { at = u; component = c }) ms p all
-
-pub All-note_all : (P : Moment → Type 0) (events : List Event) (ms : List Moment) → All (λ (event : Event). P (moment_of event)) events → All P ms → All P (note_all events ms)
+pub AllDue-note_all : (P : ℕ → ℕ → Type 0) (events : List Event) (dues : List (Option ℕ)) → All (λ (event : Event). P event.to.component event.time) events → AllDue P dues → AllDue P (note_all events dues)
 unfolding note_all
-All-note_all P [] ms each all = all
-All-note_all P (event ∷ more) ms each all = All-note_all P more (note (moment_of event) ms) (All-tail (λ (x : Event). P (moment_of x)) event more each) (All-note P (moment_of event) ms (All-head (λ (x : Event). P (moment_of x)) event more each) all)
+AllDue-note_all P [] dues each all = all
+AllDue-note_all P (event ∷ more) dues each all = AllDue-note_all P more (note event.time event.to.component dues) (All-tail (λ (x : Event). P x.to.component x.time) event more each) (AllDue-note P event.time event.to.component dues (All-head (λ (x : Event). P x.to.component x.time) event more each) all)
 
--- what the agenda has besides its first moment
-pub has_other : (u d : ℕ) (m : Moment) (later : List Moment) → clock m.at (m.component + 1) d ≤ u → has u d (m ∷ later) ≡ true → has u d later ≡ true
-has_other u d m later after there = at (m.at == u) (m.component == d) refl refl there
-  where
-    not_itself : (x y u d : ℕ) → clock x (y + 1) d ≤ u → x ≡ u → y ≡ d → ⊥
-    not_itself x y u d after same_time same = let past : clock x (y + 1) d ≡ x + 1 = clock_past x (y + 1) d (omega arith) in absurd (omega arith)
-
-    at : (same_time same : Bool) → (m.at == u) ≡ same_time → (m.component == d) ≡ same → ((same_time && same) || has u d later) ≡ true → has u d later ≡ true
-    at true true is is' some = absurd (not_itself m.at m.component u d after (equal_from_test m.at u is) (equal_from_test m.component d is'))
-    at true false is is' some = some
-    at false same is is' some = some
+pub length-note_all : (events : List Event) (dues : List (Option ℕ)) → length (note_all events dues) ≡ length dues
+unfolding note_all
+length-note_all [] dues = refl
+length-note_all (event ∷ more) dues = length-note_all more (note event.time event.to.component dues) ∙ length-note event.time event.to.component dues

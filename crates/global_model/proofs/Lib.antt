@@ -11,4 +11,8 @@ pub mod NextMoment
 pub mod Sending
 pub mod Arriving
 pub mod AfterStep
+pub mod ComesTo
+pub mod FirstTimes
 pub mod StartAndEnd
+pub mod RunLaws
+pub mod RunOn

@@ -1,41 +1,33 @@
 -- From one moment of the agenda to the next.
 use Rattle.std.specs.Prelude.{ℕ, ◌≡◌, ◌+◌, ◌≤◌, ◌<◌, true, List, [], ◌∷◌, length, slice_get, Option, Some, IsSome, All, option_map, option_and_then, refl, ◌⊎◌}
-use Rattle.std.proofs.lemmas.List.Elements.{All-cons, All-weaker}
+use Rattle.std.proofs.lemmas.List.Elements.{All-weaker}
 use Rattle.std.proofs.lemmas.Option.{slice_get-map}
-use Rattle.std.proofs.Common.{sym, ap, ◌∙◌, arith, subst, inl}
+use Rattle.std.proofs.Common.{sym, ap, ◌∙◌, arith, subst}
 use Rattle.cs_base.specs.declared.link.Link.{Link}
 use Rattle.cs_base.specs.declared.port_kind.PortKind.{PortKind}
 use Rattle.cs_base.specs.Plan.{End, kind_at}
 use Rattle.sb_message.specs.declared.message.Msg.{Msg}
 use Rattle.device_api.specs.Behaviour.{Behaviour}
 use Rattle.device_api.specs.World.{ports_in, Run, arrivals, waiting_at}
-use Rattle.global_model.specs.declared.agenda.Moment.{Moment}
-use Rattle.global_model.specs.declared.component.Component.{Component}
+use Rattle.device_api.specs.declared.component.Component.{Component}
+use Rattle.moment_tree.specs.Places.{clock}
 use Rattle.global_model.specs.declared.routes.Route.{Route}
-use Rattle.global_model.specs.Agenda.{has, IsAfter}
-use Rattle.global_model.proofs.AgendaLaws.{All-has}
+use Rattle.global_model.specs.Agenda.{has}
 use Rattle.global_model.specs.Inboxes.{end_at}
-use Rattle.global_model.specs.Places.{clock}
-use Rattle.global_model.proofs.Quiet.{clock_at, world_at, Rests, jump}
+use Rattle.global_model.proofs.Quiet.{clock_at, Rests, jump}
+use Rattle.global_model.specs.UnderWay.{world_at, IsHere, IsBox, component_of, IsUnderWay}
 use Rattle.global_model.proofs.ReactionLaws.{bodies_at, bodies_at-filter}
 use Rattle.global_model.specs.Step.{network}
 use Rattle.global_model.specs.Turn.{queue_in, queue_at, from_time, Rises}
 use Rattle.global_model.proofs.TurnLaws.{none_at}
-use Rattle.global_model.proofs.UnderWay.{IsHere, IsBox, component_of, IsUnderWay, rises_from, arrivals-none, get_some, is_at_other, if_some_weaker, clock_next}
+use Rattle.global_model.proofs.UnderWay.{rises_from, arrivals-none, get_some, is_at_other, if_some_weaker}
 
 pub kind_within : (kinds : List (List PortKind)) (e : End) (ports : List PortKind) → slice_get kinds e.component ≡ Some ports → e.port < length ports → IsSome (kind_at kinds e)
 kind_within kinds e ports is lt =
     let kind : (k : PortKind) × (slice_get ports e.port ≡ Some k) = get_some ports e.port lt in
     subst (λ o. IsSome (option_and_then (λ xs. slice_get xs e.port) o)) (sym is) (subst (λ o. IsSome o) (sym kind.1) refl)
 
-clock_after : (t c d u : ℕ) → clock t (c + 1) d ≤ u → clock t c d ≤ u
-clock_after t c d u le = let less : clock t c d ≤ clock t (c + 1) d = clock_next t c d in omega arith
-
--- no moment of the agenda is before its first
-pub least : (m : Moment) (later : List Moment) → All (IsAfter m) later → (u d : ℕ) → has u d (m ∷ later) ≡ true → clock m.at m.component d ≤ u
-least m later others u d there = All-has (λ (x : Moment). clock m.at m.component x.component ≤ x.at) u d (m ∷ later) (All-cons (λ (x : Moment). clock m.at m.component x.component ≤ x.at) m later (let here : clock m.at m.component m.component ≡ m.at = clock_at m.at m.component m.component (omega arith) in omega arith) (All-weaker (IsAfter m) (λ (x : Moment). clock m.at m.component x.component ≤ x.at) (λ x after. clock_after m.at m.component x.component x.at after) later others)) there
-
-module _ {S : Type 0} {b : Behaviour S} {settled : S → ℕ → Type 0} {end : ℕ} {kinds : List (List PortKind)} {links : List Link} {starts : List S} {routes : List (List (Option Route))} {t c : ℕ} {components : List (Component S)} {inboxes : List (List (List Msg))} {agenda : List Moment} (under_way : IsUnderWay b settled end kinds links starts routes t c components inboxes agenda) where
+module _ {S : Type 0} {b : Behaviour S} {settled : S → ℕ → Type 0} {end : ℕ} {kinds : List (List PortKind)} {links : List Link} {starts : List S} {routes : List (List (Option Route))} {t c : ℕ} {components : List (Component S)} {inboxes : List (List (List Msg))} {agenda : List (Option ℕ)} (under_way : IsUnderWay b settled end kinds links starts routes t c components inboxes agenda) where
   -- the ports of a component, by its device, and by its start
   pub ports_of : (d : ℕ) (component : Component S) → slice_get components d ≡ Some component → slice_get kinds d ≡ Some (b.ports component.device)
   ports_of d component is = ap (λ xs. slice_get xs d) (sym under_way.ports_same) ∙ slice_get-map (λ (x : Component S). b.ports x.device) components d ∙ ap (option_map (λ (x : Component S). b.ports x.device)) is
@@ -74,7 +66,3 @@ module _ {S : Type 0} {b : Behaviour S} {settled : S → ℕ → Type 0} {end : 
 
     pub jumped : c' ≤ length starts → (t < t') ⊎ ((t ≡ t') × (c ≤ c')) → world_at (network b starts links) t' c' ≡ world_at (network b starts links) t c
     jumped in_range order = jump (network b starts links) t c t' c' (world_at (network b starts links) t c) under_way.in_range in_range order rests refl
-
-  -- the run is over where the agenda has nothing before its end
-  pub over : ((u d : ℕ) → has u d agenda ≡ true → end ≤ u) → world_at (network b starts links) end 0 ≡ world_at (network b starts links) t c
-  over none_before = jumped end 0 (λ u d there. (let le : end ≤ u = none_before u d there in let at : clock end 0 d ≡ end = clock_at end 0 d (omega arith) in omega arith)) (omega arith) (inl under_way.within)

@@ -7,14 +7,13 @@ use Rattle.cs_base.specs.Plan.{End, same_end}
 use Rattle.sb_message.specs.declared.message.Body.{Body}
 use Rattle.sb_message.specs.declared.message.Msg.{Msg}
 use Rattle.device_api.specs.World.{Event, waiting_at}
-use Rattle.global_model.specs.declared.agenda.Moment.{Moment}
 use Rattle.global_model.specs.declared.routes.Route.{Route}
 use Rattle.global_model.specs.Inboxes.{port_of, end_at, put}
 use Rattle.global_model.specs.Agenda.{note}
 use Rattle.global_model.specs.Post.{event_along, events_along, note_all, with_arrivals, IsRouted, AreRouted}
 
 -- while sends are posted: what is still to be posted, last first, gives with what was posted all that is posted
-pub record Posts (routes : List (List (Option Route))) (from t : ℕ) (sends0 : List (ℕ × Body)) (inboxes0 : List (List (List Msg))) (agenda0 : List Moment) (left : List (ℕ × Body)) (inboxes : List (List (List Msg))) (agenda : List Moment) : Type 0 where
+pub record Posts (routes : List (List (Option Route))) (from t : ℕ) (sends0 : List (ℕ × Body)) (inboxes0 : List (List (List Msg))) (agenda0 : List (Option ℕ)) (left : List (ℕ × Body)) (inboxes : List (List (List Msg))) (agenda : List (Option ℕ)) : Type 0 where
   pub routed : AreRouted routes inboxes from (reverse left)
   pub arrives : (e : End) → with_arrivals e (events_along routes from t (reverse left)) (port_of inboxes e) ≡ with_arrivals e (events_along routes from t sends0) (port_of inboxes0 e)
   pub noted : note_all (events_along routes from t (reverse left)) agenda ≡ note_all (events_along routes from t sends0) agenda0
@@ -29,7 +28,7 @@ put_first e event events queues = at (same_end event.to e) (queues e)
     at true (Some messages) = ap Some (append_assoc messages (record { at = event.time; body = event.body } ∷ []) (waiting_at e events))
     at false (Some messages) = refl
 
-pub posts_start : (routes : List (List (Option Route))) (from t : ℕ) (sends left : List (ℕ × Body)) (inboxes : List (List (List Msg))) (agenda : List Moment) → left ≡ reverse sends → AreRouted routes inboxes from sends → Posts routes from t sends inboxes agenda left inboxes agenda
+pub posts_start : (routes : List (List (Option Route))) (from t : ℕ) (sends left : List (ℕ × Body)) (inboxes : List (List (List Msg))) (agenda : List (Option ℕ)) → left ≡ reverse sends → AreRouted routes inboxes from sends → Posts routes from t sends inboxes agenda left inboxes agenda
 posts_start routes from t sends left inboxes agenda is routed =
     let same : reverse left ≡ sends = ap reverse is ∙ reverse-reverse sends in
     record {
@@ -46,7 +45,7 @@ put_there end e m queues there = at (same_end end e) (queues e) there
     at true (Some messages) some = refl
     at false (Some messages) some = refl
 
-module _ {routes : List (List (Option Route))} {from t : ℕ} {sends0 : List (ℕ × Body)} {inboxes0 : List (List (List Msg))} {agenda0 : List Moment} {left : List (ℕ × Body)} {inboxes : List (List (List Msg))} {agenda : List Moment} (posts : Posts routes from t sends0 inboxes0 agenda0 left inboxes agenda) where
+module _ {routes : List (List (Option Route))} {from t : ℕ} {sends0 : List (ℕ × Body)} {inboxes0 : List (List (List Msg))} {agenda0 : List (Option ℕ)} {left : List (ℕ × Body)} {inboxes : List (List (List Msg))} {agenda : List (Option ℕ)} (posts : Posts routes from t sends0 inboxes0 agenda0 left inboxes agenda) where
   next_first : (sent : ℕ × Body) (more : List (ℕ × Body)) → left ≡ more ++ sent ∷ [] → reverse left ≡ sent ∷ reverse more
   next_first sent more is = ap reverse is ∙ reverse-append more (sent ∷ [])
 
@@ -72,7 +71,7 @@ module _ {routes : List (List (Option Route))} {from t : ℕ} {sends0 : List (�
         noted = ap (λ events. note_all events agenda) (sym same) ∙ posts.noted;
       }
 
-  pub posts_more : (port : ℕ) (body : Body) (more : List (ℕ × Body)) (route : Route) (inboxes' : List (List (List Msg))) (agenda' : List Moment) → left ≡ more ++ (port, body) ∷ [] → port_of routes (end_at from port) ≡ Some (Some route) → ((e : End) → port_of inboxes' e ≡ put (end_at route.component route.port) (record { at = t + route.latency; body = body }) (port_of inboxes) e) → agenda' ≡ note (record { at = t + route.latency; component = route.component }) agenda → Posts routes from t sends0 inboxes0 agenda0 more inboxes' agenda'
+  pub posts_more : (port : ℕ) (body : Body) (more : List (ℕ × Body)) (route : Route) (inboxes' : List (List (List Msg))) (agenda' : List (Option ℕ)) → left ≡ more ++ (port, body) ∷ [] → port_of routes (end_at from port) ≡ Some (Some route) → ((e : End) → port_of inboxes' e ≡ put (end_at route.component route.port) (record { at = t + route.latency; body = body }) (port_of inboxes) e) → agenda' ≡ note (t + route.latency) route.component agenda → Posts routes from t sends0 inboxes0 agenda0 more inboxes' agenda'
   unfolding note_all
   posts_more port body more route inboxes' agenda' is along new noted =
       let event : Event = record { time = t + route.latency; to = end_at route.component route.port; body = body } in
@@ -96,8 +95,8 @@ module _ {routes : List (List (Option Route))} {from t : ℕ} {sends0 : List (�
       as_before None = refl
       as_before (Some messages) = ap Some (append-nil messages)
 
-  pub posts_at : (port : ℕ) (body : Body) (more : List (ℕ × Body)) (route : Route) (at : ℕ) (inboxes' : List (List (List Msg))) (agenda' : List Moment) → left ≡ more ++ (port, body) ∷ [] → port_of routes (end_at from port) ≡ Some (Some route) → at ≡ t + route.latency → ((e : End) → port_of inboxes' e ≡ put (end_at route.component route.port) (record { at = at; body = body }) (port_of inboxes) e) → agenda' ≡ note (record { at = at; component = route.component }) agenda → Posts routes from t sends0 inboxes0 agenda0 more inboxes' agenda'
+  pub posts_at : (port : ℕ) (body : Body) (more : List (ℕ × Body)) (route : Route) (at : ℕ) (inboxes' : List (List (List Msg))) (agenda' : List (Option ℕ)) → left ≡ more ++ (port, body) ∷ [] → port_of routes (end_at from port) ≡ Some (Some route) → at ≡ t + route.latency → ((e : End) → port_of inboxes' e ≡ put (end_at route.component route.port) (record { at = at; body = body }) (port_of inboxes) e) → agenda' ≡ note at route.component agenda → Posts routes from t sends0 inboxes0 agenda0 more inboxes' agenda'
   posts_at port body more route at inboxes' agenda' is along at_is new noted =
       posts_more port body more route inboxes' agenda' is along
       (λ e. new e ∙ ap (λ x. put (end_at route.component route.port) (record { at = x; body = body }) (port_of inboxes) e) at_is)
-      (noted ∙ ap (λ x. note (record { at = x; component = route.component }) agenda) at_is)
+      (noted ∙ ap (λ x. note x route.component agenda) at_is)

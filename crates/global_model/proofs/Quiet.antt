@@ -4,7 +4,8 @@ use Rattle.std.proofs.lemmas.Bool.Decides.{nat_tests}
 use Rattle.std.proofs.Common.{subst, sym, ap, ◌∙◌, append-nil, arith, ⊎_elim}
 use Rattle.std.proofs.lemmas.List.{set-get_or}
 use Rattle.std.proofs.lemmas.Option.{get_or_from_slice_get}
-use Rattle.global_model.specs.Places.{clock}
+use Rattle.moment_tree.specs.Places.{clock}
+use Rattle.global_model.specs.UnderWay.{world_at}
 use Rattle.device_api.specs.World.{Arrival, followed_by, rest, take_all, react, is_at, Run, World, Network, events_of, arrivals_for, with_reaction, turn_of, slot, global_until}
 
 pub clock_at : (t c d : ℕ) → c ≤ d → clock t c d ≡ t
@@ -22,10 +23,6 @@ clock_high t c d = grind (arith, nat_tests)
 -- a list is as it was where an element is replaced by itself
 pub set_itself : {X : Type 0} (xs : List X) (i : ℕ) (x : X) → slice_get xs i ≡ Some x → slice_set xs i x ≡ xs
 set_itself xs i x is = ap (slice_set xs i) (sym (get_or_from_slice_get xs i x x is)) ∙ set-get_or xs i x
-
--- the world while the components below c have had their turn at t
-abbrev pub world_at : {S : Type 0} → Network S → ℕ → ℕ → World S
-world_at net t c = slot net t c (global_until net t)
 
 -- nothing happens for component d at u
 pub record Rests {S : Type 0} (net : Network S) (u d : ℕ) (w : World S) : Type 0 where

@@ -82,21 +82,21 @@ module _ {S : Type 0} {b : Behaviour S} {settled : S → ℕ → Type 0} (lawful
   pub taking_more : (s : S) (t : ℕ) (r : Reaction S) (p : ℕ) (x : Body) → t < 10 ^ 15 → MayReceive (b.ports s) p x → IsTaking b settled s t r → IsTaking b settled s t (followed_by r (λ s. b.take s t p x))
   taking_more s t r p x in_run may taking =
       let receives : MayReceive (b.ports r.state) p x = subst (λ ports. MayReceive ports p x) (sym taking.same_ports) may in
-      let orderly : IsOrderly b settled r.state t (b.take r.state t p x) = lawful.take_orderly r.state t p x receives taking.not_past in_run taking.settled_after in
+      let orderly : IsOrderly b settled r.state t (b.take r.state t p x) = (lawful.at r.state).take_orderly t p x receives taking.not_past in_run taking.settled_after in
       record {
         same_ports = orderly.same_ports ∙ taking.same_ports;
         settled_after = orderly.settled_after;
-        not_past = lawful.due_after_take r.state t p x receives taking.not_past in_run taking.settled_after;
+        not_past = (lawful.at r.state).due_after_take t p x receives taking.not_past in_run taking.settled_after;
         sendable = All-append (λ (sent : ℕ × Body). MaySend (b.ports s) sent.0 sent.1) r.sends (b.take r.state t p x).sends taking.sendable (subst (λ ports. All (λ (sent : ℕ × Body). MaySend ports sent.0 sent.1) (b.take r.state t p x).sends) taking.same_ports orderly.sendable);
       }
 
   pub ticked : (s : S) (t : ℕ) (r : Reaction S) → t < 10 ^ 15 → IsTaking b settled s t r → b.due r.state ≡ Some t → IsMoment b settled s t (followed_by r (λ s. b.tick s t))
   ticked s t r in_run taking due =
-      let orderly : IsOrderly b settled r.state t (b.tick r.state t) = lawful.tick_orderly r.state t due in_run taking.settled_after in
+      let orderly : IsOrderly b settled r.state t (b.tick r.state t) = (lawful.at r.state).tick_orderly t due in_run taking.settled_after in
       record {
         same_ports = orderly.same_ports ∙ taking.same_ports;
         settled_after = orderly.settled_after;
-        later = lawful.due_after_tick r.state t due in_run taking.settled_after;
+        later = (lawful.at r.state).due_after_tick t due in_run taking.settled_after;
         sendable = All-append (λ (sent : ℕ × Body). MaySend (b.ports s) sent.0 sent.1) r.sends (b.tick r.state t).sends taking.sendable (subst (λ ports. All (λ (sent : ℕ × Body). MaySend ports sent.0 sent.1) (b.tick r.state t).sends) taking.same_ports orderly.sendable);
       }
 

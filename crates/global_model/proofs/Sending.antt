@@ -14,20 +14,22 @@ use Rattle.sb_message.specs.Receivable.{MayReceive, MaySend, receivable, is_even
 use Rattle.device_api.specs.Behaviour.{Behaviour}
 use Rattle.device_api.specs.Channels.{Channel, channels}
 use Rattle.device_api.specs.World.{Event, Sent, out_of, sent_at, event_on, events_of}
-use Rattle.global_model.specs.declared.agenda.Moment.{Moment}
-use Rattle.global_model.specs.declared.component.Component.{Component}
+use Rattle.moment_tree.specs.declared.agenda.Moment.{Moment}
+use Rattle.device_api.specs.declared.component.Component.{Component}
+use Rattle.moment_tree.specs.Places.{clock}
 use Rattle.global_model.specs.declared.routes.Route.{Route}
-use Rattle.global_model.specs.Agenda.{has, IsAfter}
+use Rattle.global_model.specs.Agenda.{has, IsNext}
 use Rattle.global_model.specs.Inboxes.{port_of, end_at}
 use Rattle.global_model.specs.Post.{event_along, events_along, IsRouted}
-use Rattle.global_model.specs.Places.{clock}
 use Rattle.global_model.proofs.Quiet.{clock_at, clock_low}
 use Rattle.global_model.specs.Routes.{route_along, route_from}
 use Rattle.global_model.specs.Step.{IsReady}
 use Rattle.global_model.specs.Turn.{queue_at, Rises}
-use Rattle.global_model.proofs.Ways.{latency_at, IsWay, way_out, latency_way}
-use Rattle.global_model.proofs.UnderWay.{IsHere, IsAwake, IsToCome, IsUnderWay, get_some, option_some, if_some_weaker}
-use Rattle.global_model.proofs.NextMoment.{least, ports_of, box_rises, kind_within}
+use Rattle.global_model.proofs.Ways.{IsWay, way_out, latency_way}
+use Rattle.global_model.specs.UnderWay.{latency_at, IsHere, IsAwake, IsUnderWay}
+use Rattle.global_model.proofs.AgendaLaws.{least}
+use Rattle.global_model.proofs.UnderWay.{IsToCome, get_some, option_some, if_some_weaker}
+use Rattle.global_model.proofs.NextMoment.{ports_of, box_rises, kind_within}
 
 -- an event that was sent at t
 pub record IsSent (kinds : List (List PortKind)) (links : List Link) (t : ℕ) (event : Event) : Type 0 where
@@ -83,9 +85,9 @@ module _ (end : ℕ) (kinds : List (List PortKind)) (links : List Link) (plan : 
       let here : All (IsSent kinds links t) (event_along (port_of routes (end_at c sent.0)) t sent.1) = subst (λ r. All (IsSent kinds links t) (event_along r t sent.1)) (sym (routed sent.0 (slice_get_within ports sent.0 first.kind first.at_port))) (event_sent (end_at c sent.0) first.kind t sent.1 kind first.fits first.event) in
       All-append (IsSent kinds links t) (event_along (port_of routes (end_at c sent.0)) t sent.1) (events_along routes c t more) here (events_sent routes c t ports more is routed (All-tail (λ (x : ℕ × Body). MaySend ports x.0 x.1) sent more may))
 
-module _ {S : Type 0} {b : Behaviour S} {settled : S → ℕ → Type 0} {end : ℕ} {kinds : List (List PortKind)} {links : List Link} {starts : List S} {routes : List (List (Option Route))} {t c : ℕ} {components : List (Component S)} {inboxes : List (List (List Msg))} {m : Moment} {later : List Moment} (under_way : IsUnderWay b settled end kinds links starts routes t c components inboxes (m ∷ later)) (others : All (IsAfter m) later) where
+module _ {S : Type 0} {b : Behaviour S} {settled : S → ℕ → Type 0} {end : ℕ} {kinds : List (List PortKind)} {links : List Link} {starts : List S} {routes : List (List (Option Route))} {t c : ℕ} {components : List (Component S)} {inboxes : List (List (List Msg))} {m : Moment} {agenda : List (Option ℕ)} (under_way : IsUnderWay b settled end kinds links starts routes t c components inboxes agenda) (next : IsNext m agenda) where
   pub first_to_come : IsToCome t c (length starts) m
-  first_to_come = All-head (IsToCome t c (length starts)) m later under_way.to_come
+  first_to_come = record { not_before = under_way.to_come m.component m.at next.there; in_range = subst (λ n. m.component < n) under_way.roomy (slice_get_within agenda m.component (Some m.at) next.there) }
 
   pub no_earlier : t ≤ m.at
   no_earlier = let low : t ≤ clock t c m.component = clock_low t c m.component in let at : clock t c m.component ≤ m.at = first_to_come.not_before in omega arith
@@ -122,17 +124,17 @@ module _ {S : Type 0} {b : Behaviour S} {settled : S → ℕ → Type 0} {end : 
   ready component is =
       let ports : List PortKind = b.ports component.device in
       let kinds_at : slice_get kinds m.component ≡ Some ports = ports_of under_way m.component component is in
-      let awake : IsAwake b settled t m.component (m ∷ later) component = under_way.awake m.component component is in
+      let awake : IsAwake b settled t m.component agenda component = under_way.awake m.component component is in
       let now : clock m.at m.component m.component ≡ m.at = clock_at m.at m.component m.component (omega arith) in
       record {
         waits = record {
           there = λ p lt. subst (λ o. IsSome o) (sym (under_way.queues (end_at m.component p) (kind_within kinds (end_at m.component p) ports kinds_at lt))) refl;
           waits = λ p lt. record {
-            rises = subst (λ x. Rises x (queue_at inboxes (end_at m.component p))) now (box_rises under_way m.at m.component (least m later others) (end_at m.component p) ports kinds_at lt);
-            receivable = All-weaker (IsHere links (m ∷ later) ports (end_at m.component p) t) (λ (x : Msg). MayReceive ports p x.body) (λ x here. here.may) (queue_at inboxes (end_at m.component p)) (under_way.boxes (end_at m.component p) ports kinds_at lt).here;
+            rises = subst (λ x. Rises x (queue_at inboxes (end_at m.component p))) now (box_rises under_way m.at m.component (least next) (end_at m.component p) ports kinds_at lt);
+            receivable = All-weaker (IsHere links agenda ports (end_at m.component p) t) (λ (x : Msg). MayReceive ports p x.body) (λ x here. here.may) (queue_at inboxes (end_at m.component p)) (under_way.boxes (end_at m.component p) ports kinds_at lt).here;
           };
         };
-        settled_then = under_way.lawful.settled_later component.device (t + 1) (m.at + 1) awake.settled_then (let early : t ≤ m.at = no_earlier in omega arith);
-        not_past = if_some_weaker (λ u. has u m.component (m ∷ later) ≡ true) (λ u. m.at ≤ u) (b.due component.device) (λ u there. (let le : clock m.at m.component m.component ≤ u = least m later others u m.component there in omega arith)) awake.due_noted;
+        settled_then = (under_way.lawful.at component.device).settled_later (t + 1) (m.at + 1) awake.settled_then (let early : t ≤ m.at = no_earlier in omega arith);
+        not_past = if_some_weaker (λ u. has u m.component agenda ≡ true) (λ u. m.at ≤ u) (b.due component.device) (λ u there. (let le : clock m.at m.component m.component ≤ u = least next u m.component there in omega arith)) awake.due_noted;
         routed = λ p lt. routed_at (end_at m.component p) (kind_within kinds (end_at m.component p) ports kinds_at lt);
       }

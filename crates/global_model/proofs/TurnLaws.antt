@@ -8,14 +8,13 @@ use Rattle.cs_base.specs.Plan.{End, same_end}
 use Rattle.sb_message.specs.declared.message.Body.{Body}
 use Rattle.sb_message.specs.declared.message.Msg.{Msg}
 use Rattle.sb_message.specs.Receivable.{MayReceive, MaySend}
-use Rattle.device_api.specs.declared.effects.Effects.{Effects}
-use Rattle.device_api.specs.Behaviour.{Reaction, Behaviour, IsLawful}
+use Rattle.device_api.specs.Behaviour.{Reaction, SendsAndLines, Behaviour, IsLawful}
 use Rattle.device_api.specs.Gives.{Gives}
 use Rattle.device_api.specs.World.{followed_by, rest, take_all, arrivals_on, arrivals}
 use Rattle.global_model.specs.Inboxes.{port_of, end_at, with_queue, StartsOff}
 use Rattle.global_model.proofs.Nested.{same_end_is}
-use Rattle.global_model.specs.Reactions.{IsTaking}
-use Rattle.global_model.proofs.ReactionLaws.{taking_more, take_on, take_bodies, bodies_at, followed_by_assoc, followed_by-rest, take_all-append}
+use Rattle.global_model.specs.Reactions.{IsTaking, IsMoment}
+use Rattle.global_model.proofs.ReactionLaws.{taking_more, ticked, take_on, take_bodies, bodies_at, followed_by_assoc, followed_by-rest, take_all-append}
 use Rattle.global_model.specs.Turn.{queue_in, queue_at, from_time, Rises, IsQueue, so_far, take_queue, taken_before, inputs_of, AreQueues}
 
 equal_itself : (n : ℕ) → (n == n) ≡ true
@@ -73,15 +72,13 @@ starts_off_in t None off = tt
 starts_off_in t (Some queue) off = off
 
 -- while a port's messages of t are taken: what is as at first, what is still to be taken, and what has been done
-pub record TakesPort {S : Type 0} (b : Behaviour S) (settled : S → ℕ → Type 0) (t port : ℕ) (e : End) (s0 : S) (done0 : Effects) (inboxes0 : List (List (List Msg))) (s : S) (done latest : Effects) (inboxes : List (List (List Msg))) : Type 0 where
+pub record TakesPort {S : Type 0} (b : Behaviour S) (settled : S → ℕ → Type 0) (t port : ℕ) (e : End) (s0 : S) (done0 : SendsAndLines) (inboxes0 : List (List (List Msg))) (s : S) (done : SendsAndLines) (inboxes : List (List (List Msg))) : Type 0 where
   pub there : IsSome (port_of inboxes e)
   pub waits : IsQueue (b.ports s0) port t (queue_at inboxes e)
   pub left : from_time (t + 1) (queue_at inboxes e) ≡ from_time (t + 1) (queue_at inboxes0 e)
   pub others : (x : End) → port_of inboxes x ≡ with_queue (port_of inboxes0) e (queue_at inboxes e) x
   pub taking : IsTaking b settled s0 t (so_far s done)
   pub reaction : followed_by (so_far s done) (take_queue b t port (queue_at inboxes e)) ≡ followed_by (so_far s0 done0) (take_queue b t port (queue_at inboxes0 e))
-  pub no_sends : latest.sends ≡ []
-  pub no_lines : latest.lines ≡ []
 
 pub queue_is : (found : Option (List Msg)) → IsSome found → found ≡ Some (queue_in found)
 queue_is None some = absurd (false≢true some)
@@ -98,10 +95,10 @@ others_same : (same : Bool) (xs ys zs : List Msg) (o o0 : Option (List Msg)) →
 others_same true xs ys zs o o0 is before = ap Some is
 others_same false xs ys zs o o0 is before = before
 
-pub takes_port_starts : {S : Type 0} {b : Behaviour S} {settled : S → ℕ → Type 0} {t port : ℕ} {s : S} {done : Effects} (e : End) (latest : Effects) (inboxes : List (List (List Msg))) → IsSome (port_of inboxes e) → IsQueue (b.ports s) port t (queue_at inboxes e) → IsTaking b settled s t (so_far s done) → latest.sends ≡ [] → latest.lines ≡ [] → TakesPort b settled t port e s done inboxes s done latest inboxes
-takes_port_starts e latest inboxes there waits taking no_sends no_lines = record { there = there; waits = waits; left = refl; others = λ x. with_its_queue (port_of inboxes) e x there; taking = taking; reaction = refl; no_sends = no_sends; no_lines = no_lines }
+pub takes_port_starts : {S : Type 0} {b : Behaviour S} {settled : S → ℕ → Type 0} {t port : ℕ} {s : S} {done : SendsAndLines} (e : End) (inboxes : List (List (List Msg))) → IsSome (port_of inboxes e) → IsQueue (b.ports s) port t (queue_at inboxes e) → IsTaking b settled s t (so_far s done) → TakesPort b settled t port e s done inboxes s done inboxes
+takes_port_starts e inboxes there waits taking = record { there = there; waits = waits; left = refl; others = λ x. with_its_queue (port_of inboxes) e x there; taking = taking; reaction = refl }
 
-module _ {S : Type 0} {b : Behaviour S} {settled : S → ℕ → Type 0} {t port : ℕ} {e : End} {s0 : S} {done0 : Effects} {inboxes0 : List (List (List Msg))} {s : S} {done latest : Effects} {inboxes : List (List (List Msg))} (takes : TakesPort b settled t port e s0 done0 inboxes0 s done latest inboxes) where
+module _ {S : Type 0} {b : Behaviour S} {settled : S → ℕ → Type 0} {t port : ℕ} {e : End} {s0 : S} {done0 : SendsAndLines} {inboxes0 : List (List (List Msg))} {s : S} {done : SendsAndLines} {inboxes : List (List (List Msg))} (takes : TakesPort b settled t port e s0 done0 inboxes0 s done inboxes) where
   receives : (body : Body) (more : List Msg) → port_of inboxes e ≡ Some (record { at = t; body = body } ∷ more) → All (λ (m : Msg). MayReceive (b.ports s0) port m.body) (record { at = t; body = body } ∷ more)
   receives body more found = subst (λ xs. All (λ (m : Msg). MayReceive (b.ports s0) port m.body) xs) (ap queue_in found) takes.waits.receivable
 
@@ -110,16 +107,16 @@ module _ {S : Type 0} {b : Behaviour S} {settled : S → ℕ → Type 0} {t port
   may_take body more found =
       subst (λ ports. MayReceive ports port body) (sym takes.taking.same_ports) (All-head (λ (m : Msg). MayReceive (b.ports s0) port m.body) (record { at = t; body = body }) more (receives body more found))
 
-  pub takes_port_more : IsLawful b settled → t < 10 ^ 15 → (body : Body) (more : List Msg) (s' : S) (gave done' latest' : Effects) (inboxes' : List (List (List Msg))) → port_of inboxes e ≡ Some (record { at = t; body = body } ∷ more) → ((x : End) → port_of inboxes' x ≡ with_queue (port_of inboxes) e more x) → Gives (b.take s t port body) s' gave → done'.sends ≡ done.sends ++ gave.sends → done'.lines ≡ done.lines ++ gave.lines → latest'.sends ≡ [] → latest'.lines ≡ [] → TakesPort b settled t port e s0 done0 inboxes0 s' done' latest' inboxes'
-  takes_port_more lawful in_run body more s' gave done' latest' inboxes' found new gives sends lines no_sends no_lines =
+  pub takes_port_more : IsLawful b settled → t < 10 ^ 15 → (body : Body) (more : List Msg) (s' : S) (done' : SendsAndLines) (inboxes' : List (List (List Msg))) → port_of inboxes e ≡ Some (record { at = t; body = body } ∷ more) → ((x : End) → port_of inboxes' x ≡ with_queue (port_of inboxes) e more x) → Gives (b.take s t port body) s' done done' → TakesPort b settled t port e s0 done0 inboxes0 s' done' inboxes'
+  takes_port_more lawful in_run body more s' done' inboxes' found new gives =
       let queue : queue_at inboxes e ≡ record { at = t; body = body } ∷ more = ap queue_in found in
       let here : port_of inboxes' e ≡ Some more = new e ∙ ap (λ same. if same then Some more else port_of inboxes e) (same_end_itself e) in
       let queue' : queue_at inboxes' e ≡ more = ap queue_in here in
       let r : Reaction S = b.take s t port body in
       let reacted : so_far s' done' ≡ followed_by (so_far s done) (λ x. b.take x t port body) =
       ap (λ state. record { state = state; sends = done'.sends; lines = done'.lines }) gives.state_is
-      ∙ ap (λ xs. record { state = r.state; sends = xs; lines = done'.lines }) (sends ∙ ap (λ xs. done.sends ++ xs) gives.sends_are)
-      ∙ ap (λ xs. record { state = r.state; sends = done.sends ++ r.sends; lines = xs }) (lines ∙ ap (λ xs. done.lines ++ xs) gives.lines_are) in
+      ∙ ap (λ xs. record { state = r.state; sends = xs; lines = done'.lines }) gives.sends_are
+      ∙ ap (λ xs. record { state = r.state; sends = done.sends ++ r.sends; lines = xs }) gives.lines_are in
       let rises : Rises t (record { at = t; body = body } ∷ more) = subst (Rises t) queue takes.waits.rises in
       let all : All (λ (m : Msg). MayReceive (b.ports s0) port m.body) (record { at = t; body = body } ∷ more) = receives body more found in
       record {
@@ -135,8 +132,6 @@ module _ {S : Type 0} {b : Behaviour S} {settled : S → ℕ → Type 0} {t port
             ∙ ap (λ (next : Reaction S). followed_by (so_far s done) (λ _. next)) (sym (take_queue-first b t port body more s))
             ∙ ap (λ xs. followed_by (so_far s done) (take_queue b t port xs)) (sym queue)
             ∙ takes.reaction;
-        no_sends = no_sends;
-        no_lines = no_lines;
       }
 
   pub takes_port_ends : IfSome (port_of inboxes e) (StartsOff t) → (so_far s done ≡ followed_by (so_far s0 done0) (take_queue b t port (queue_at inboxes0 e))) × (queue_at inboxes e ≡ from_time (t + 1) (queue_at inboxes0 e))
@@ -153,17 +148,25 @@ module _ {S : Type 0} {b : Behaviour S} {settled : S → ℕ → Type 0} {t port
       let after : length (queue_at inboxes' e) ≡ length more = ap (λ o. length (queue_in o)) here in
       omega (arith, before, after)
 
+-- a device ticks after what it has taken
+pub ticked_so : {S : Type 0} {b : Behaviour S} {settled : S → ℕ → Type 0} → IsLawful b settled → (s0 : S) (t : ℕ) (s : S) (done : SendsAndLines) (s' : S) (done' : SendsAndLines) → t < 10 ^ 15 → IsTaking b settled s0 t (so_far s done) → b.due s ≡ Some t → Gives (b.tick s t) s' done done' → IsMoment b settled s0 t (so_far s' done')
+ticked_so {S} {b} {settled} lawful s0 t s done s' done' in_run taking due gives =
+    let r : Reaction S = b.tick s t in
+    let reacted : so_far s' done' ≡ followed_by (so_far s done) (λ x. b.tick x t) =
+    ap (λ state. record { state = state; sends = done'.sends; lines = done'.lines }) gives.state_is
+    ∙ ap (λ xs. record { state = r.state; sends = xs; lines = done'.lines }) gives.sends_are
+    ∙ ap (λ xs. record { state = r.state; sends = done.sends ++ r.sends; lines = xs }) gives.lines_are in
+    subst (IsMoment b settled s0 t) (sym reacted) (ticked lawful s0 t (so_far s done) in_run taking due)
+
 pub taking_from : {S : Type 0} {b : Behaviour S} {settled : S → ℕ → Type 0} {s : S} {t : ℕ} {r : Reaction S} (s' : S) → b.ports s ≡ b.ports s' → IsTaking b settled s t r → IsTaking b settled s' t r
 taking_from {b = b} {r = r} s' same taking = record { same_ports = taking.same_ports ∙ same; settled_after = taking.settled_after; not_past = taking.not_past; sendable = subst (λ ports. All (λ (sent : ℕ × Body). MaySend ports sent.0 sent.1) r.sends) same taking.sendable }
 
 -- while a device takes what arrives at t, with the ports below p behind it
-pub record TakesArrivals {S : Type 0} (b : Behaviour S) (settled : S → ℕ → Type 0) (t c p : ℕ) (s0 : S) (inboxes0 : List (List (List Msg))) (s : S) (done latest : Effects) (inboxes : List (List (List Msg))) : Type 0 where
+pub record TakesArrivals {S : Type 0} (b : Behaviour S) (settled : S → ℕ → Type 0) (t c p : ℕ) (s0 : S) (inboxes0 : List (List (List Msg))) (s : S) (done : SendsAndLines) (inboxes : List (List (List Msg))) : Type 0 where
   pub waited : AreQueues (b.ports s0) c t inboxes0
   pub reaction : so_far s done ≡ take_all b t (arrivals t (inputs_of inboxes0 c) p) s0
   pub left : (e : End) → port_of inboxes e ≡ taken_before (t + 1) c p (port_of inboxes0) e
   pub taking : IsTaking b settled s0 t (so_far s done)
-  pub no_sends : latest.sends ≡ []
-  pub no_lines : latest.lines ≡ []
 
 not_below : (x : ℕ) → nat_lt x x ≡ false
 not_below x = grind (arith, nat_tests)
@@ -196,11 +199,11 @@ taken_more u c p queues0 queues queue found before e = at (c == e.component) ref
 none_before : (x : ℕ) → nat_lt x 0 ≡ false
 none_before x = grind (arith, nat_tests)
 
-pub takes_arrivals_start : {S : Type 0} {b : Behaviour S} {settled : S → ℕ → Type 0} {t c : ℕ} {s : S} {inboxes : List (List (List Msg))} (done latest : Effects) → AreQueues (b.ports s) c t inboxes → IsTaking b settled s t (rest s) → done.sends ≡ [] → done.lines ≡ [] → latest.sends ≡ [] → latest.lines ≡ [] → TakesArrivals b settled t c 0 s inboxes s done latest inboxes
+pub takes_arrivals_start : {S : Type 0} {b : Behaviour S} {settled : S → ℕ → Type 0} {t c : ℕ} {s : S} {inboxes : List (List (List Msg))} (done : SendsAndLines) → AreQueues (b.ports s) c t inboxes → IsTaking b settled s t (rest s) → done.sends ≡ [] → done.lines ≡ [] → TakesArrivals b settled t c 0 s inboxes s done inboxes
 unfolding take_all arrivals
-takes_arrivals_start {S} {b} {settled} {t} {c} {s} {inboxes} done latest waits taking nothing_sent nothing_logged no_sends no_lines =
+takes_arrivals_start {S} {b} {settled} {t} {c} {s} {inboxes} done waits taking nothing_sent nothing_logged =
     let nothing : so_far s done ≡ rest s = ap (λ sends. record { state = s; sends = sends; lines = done.lines }) nothing_sent ∙ ap (λ lines. record { state = s; sends = []; lines = lines }) nothing_logged in
-    record { waited = waits; reaction = nothing; left = λ e. sym (nothing_taken e); taking = subst (IsTaking b settled s t) (sym nothing) taking; no_sends = no_sends; no_lines = no_lines }
+    record { waited = waits; reaction = nothing; left = λ e. sym (nothing_taken e); taking = subst (IsTaking b settled s t) (sym nothing) taking }
   where
     nothing_taken : (e : End) → taken_before (t + 1) c 0 (port_of inboxes) e ≡ port_of inboxes e
     nothing_taken e = ap (λ below. if (c == e.component) && below then option_map (from_time (t + 1)) (port_of inboxes e) else port_of inboxes e) (none_before e.port) ∙ either (c == e.component)
@@ -209,7 +212,7 @@ takes_arrivals_start {S} {b} {settled} {t} {c} {s} {inboxes} done latest waits t
         either true = refl
         either false = refl
 
-module _ {S : Type 0} {b : Behaviour S} {settled : S → ℕ → Type 0} {t c p : ℕ} {s0 : S} {inboxes0 : List (List (List Msg))} {s : S} {done latest : Effects} {inboxes : List (List (List Msg))} (takes : TakesArrivals b settled t c p s0 inboxes0 s done latest inboxes) where
+module _ {S : Type 0} {b : Behaviour S} {settled : S → ℕ → Type 0} {t c p : ℕ} {s0 : S} {inboxes0 : List (List (List Msg))} {s : S} {done : SendsAndLines} {inboxes : List (List (List Msg))} (takes : TakesArrivals b settled t c p s0 inboxes0 s done inboxes) where
   -- the next port's queue is as at first
   pub next_as_before : port_of inboxes (end_at c p) ≡ port_of inboxes0 (end_at c p)
   next_as_before = takes.left (end_at c p) ∙ ap (λ below. if (c == c) && below then option_map (from_time (t + 1)) (port_of inboxes0 (end_at c p)) else port_of inboxes0 (end_at c p)) (not_below p) ∙ neither (c == c) (option_map (from_time (t + 1)) (port_of inboxes0 (end_at c p))) (port_of inboxes0 (end_at c p))
@@ -223,9 +226,9 @@ module _ {S : Type 0} {b : Behaviour S} {settled : S → ℕ → Type 0} {t c p 
   pub next_taking : IsTaking b settled s t (so_far s done)
   next_taking = taking_from s (sym takes.taking.same_ports) takes.taking
 
-  pub takes_arrivals_more : p < length (b.ports s0) → (s' : S) (done' latest' : Effects) (inboxes' : List (List (List Msg))) → so_far s' done' ≡ followed_by (so_far s done) (take_queue b t p (queue_at inboxes (end_at c p))) → ((e : End) → port_of inboxes' e ≡ with_queue (port_of inboxes) (end_at c p) (from_time (t + 1) (queue_at inboxes (end_at c p))) e) → IsTaking b settled s t (so_far s' done') → latest'.sends ≡ [] → latest'.lines ≡ [] → TakesArrivals b settled t c (p + 1) s0 inboxes0 s' done' latest' inboxes'
+  pub takes_arrivals_more : p < length (b.ports s0) → (s' : S) (done' : SendsAndLines) (inboxes' : List (List (List Msg))) → so_far s' done' ≡ followed_by (so_far s done) (take_queue b t p (queue_at inboxes (end_at c p))) → ((e : End) → port_of inboxes' e ≡ with_queue (port_of inboxes) (end_at c p) (from_time (t + 1) (queue_at inboxes (end_at c p))) e) → IsTaking b settled s t (so_far s' done') → TakesArrivals b settled t c (p + 1) s0 inboxes0 s' done' inboxes'
   unfolding arrivals
-  takes_arrivals_more lt s' done' latest' inboxes' reacted new taking no_sends no_lines =
+  takes_arrivals_more lt s' done' inboxes' reacted new taking =
       let next : suc p ≡ p + 1 = omega arith in
       let found : port_of inboxes0 (end_at c p) ≡ Some (queue_at inboxes (end_at c p)) = queue_is (port_of inboxes0 (end_at c p)) (takes.waited.there p lt) ∙ ap (λ o. Some (queue_in o)) (sym next_as_before) in
       record {
@@ -238,6 +241,4 @@ module _ {S : Type 0} {b : Behaviour S} {settled : S → ℕ → Type 0} {t c p 
             ∙ ap (λ n. take_all b t (arrivals t (inputs_of inboxes0 c) n) s0) next;
         left = λ e. new e ∙ taken_more (t + 1) c p (port_of inboxes0) (port_of inboxes) (queue_at inboxes (end_at c p)) found takes.left e;
         taking = taking_from s0 takes.taking.same_ports taking;
-        no_sends = no_sends;
-        no_lines = no_lines;
       }

@@ -1,69 +1,16 @@
--- A run under way: how the simulator's queues and agenda stand for the world of the global run.
-use Rattle.std.specs.Prelude.{ℕ, suc, zero, ◌≡◌, ◌==◌, ◌+◌, ◌≤◌, ◌<◌, Bool, true, false, if◌then◌else◌, List, [], ◌∷◌, ◌++◌, length, map, slice_get, Option, Some, None, IsSome, IfSome, All, option_map, refl, ◌⊎◌}
+-- Small lemmas on a run under way.
+use Rattle.std.specs.Prelude.{ℕ, suc, zero, ◌≡◌, ◌==◌, ◌+◌, ◌≤◌, ◌<◌, Bool, true, false, if◌then◌else◌, List, [], ◌∷◌, ◌++◌, length, slice_get, Option, Some, None, IfSome, All, option_map, refl, ◌⊎◌}
 use Rattle.std.proofs.lemmas.Bool.{cases_lt}
 use Rattle.std.proofs.lemmas.Bool.Decides.{nat_tests}
 use Rattle.std.proofs.lemmas.List.Elements.{All-head}
 use Rattle.std.proofs.Common.{ap, ◌∙◌, arith, inl, inr, ⊎_elim}
-use Rattle.cs_base.specs.declared.link.Link.{Link}
-use Rattle.cs_base.specs.declared.port_kind.PortKind.{PortKind}
-use Rattle.cs_base.specs.Plan.{End, kind_at, IsPlan}
 use Rattle.sb_message.specs.declared.message.Msg.{Msg}
-use Rattle.sb_message.specs.Receivable.{MayReceive}
-use Rattle.device_api.specs.Behaviour.{Behaviour, IsLawful}
-use Rattle.device_api.specs.World.{Run, arrivals_on, arrivals, waiting_at, is_at}
-use Rattle.global_model.specs.declared.agenda.Moment.{Moment}
-use Rattle.global_model.specs.declared.component.Component.{Component}
-use Rattle.global_model.specs.declared.routes.Route.{Route}
-use Rattle.global_model.specs.Agenda.{has}
-use Rattle.global_model.specs.Inboxes.{port_of}
-use Rattle.global_model.specs.Places.{clock}
-use Rattle.global_model.proofs.Quiet.{clock_past, clock_low, world_at}
+use Rattle.device_api.specs.World.{arrivals_on, arrivals, is_at}
+use Rattle.moment_tree.specs.declared.agenda.Moment.{Moment}
+use Rattle.moment_tree.specs.Places.{clock}
+use Rattle.global_model.specs.Turn.{Rises}
+use Rattle.global_model.proofs.Quiet.{clock_past, clock_low}
 use Rattle.global_model.proofs.ReactionLaws.{bodies_at}
-use Rattle.global_model.specs.Routes.{route_from}
-use Rattle.global_model.specs.Step.{network}
-use Rattle.global_model.specs.Turn.{queue_at, from_time, Rises}
-use Rattle.global_model.proofs.Ways.{latency_at}
-
--- what waits at a port: the port may receive it, it arrives after at most the link's latency, and the agenda has its moment
-pub record IsHere (links : List Link) (agenda : List Moment) (ports : List PortKind) (e : End) (t : ℕ) (m : Msg) : Type 0 where
-  pub may : MayReceive ports e.port m.body
-  pub bounded : m.at ≤ t + latency_at links e
-  pub covered : has m.at e.component agenda ≡ true
-
-pub record IsBox (links : List Link) (agenda : List Moment) (ports : List PortKind) (e : End) (t low : ℕ) (queue : List Msg) : Type 0 where
-  pub rises : Rises low queue
-  pub here : All (IsHere links agenda ports e t) queue
-
--- a component's events were before the next moment, and the agenda has the moment at which it is due
-pub record IsAwake {S : Type 0} (b : Behaviour S) (settled : S → ℕ → Type 0) (t d : ℕ) (agenda : List Moment) (component : Component S) : Type 0 where
-  pub settled_then : settled component.device (t + 1)
-  pub due_noted : IfSome (b.due component.device) (λ u. has u d agenda ≡ true)
-
--- a moment of one of n components that is still to come
-pub record IsToCome (t c n : ℕ) (m : Moment) : Type 0 where
-  pub not_before : clock t c m.component ≤ m.at
-  pub in_range : m.component < n
-
--- a component is a run without what it has sent
-abbrev pub component_of : {S : Type 0} → Run S → Component S
-component_of run = record { device = run.state; log = run.log }
-
--- the components below c have had their turn at t
-pub record IsUnderWay {S : Type 0} (b : Behaviour S) (settled : S → ℕ → Type 0) (end : ℕ) (kinds : List (List PortKind)) (links : List Link) (starts : List S) (routes : List (List (Option Route))) (t c : ℕ) (components : List (Component S)) (inboxes : List (List (List Msg))) (agenda : List Moment) : Type 0 where
-  pub lawful : IsLawful b settled
-  pub plan : IsPlan end kinds links
-  pub matches : map b.ports starts ≡ kinds
-  pub routed : (e : End) → IsSome (kind_at kinds e) → port_of routes e ≡ Some (route_from links e)
-  pub within : t < end
-  pub in_range : c ≤ length starts
-  pub components_are : components ≡ map component_of (world_at (network b starts links) t c).runs
-  pub ports_same : map (λ (component : Component S). b.ports component.device) components ≡ kinds
-  pub queues : (e : End) → IsSome (kind_at kinds e) → port_of inboxes e ≡ Some (from_time (clock t c e.component) (waiting_at e (world_at (network b starts links) t c).pending))
-  pub boxes : (e : End) (ports : List PortKind) → slice_get kinds e.component ≡ Some ports → e.port < length ports → IsBox links agenda ports e t (clock t c e.component) (queue_at inboxes e)
-  pub awake : (d : ℕ) (component : Component S) → slice_get components d ≡ Some component → IsAwake b settled t d agenda component
-  pub to_come : All (IsToCome t c (length starts)) agenda
-
--- GENERAL
 
 -- where each time is at least v, the times rise from v
 pub rises_from : (v low : ℕ) (queue : List Msg) → Rises low queue → All (λ (m : Msg). v ≤ m.at) queue → Rises v queue
@@ -109,6 +56,11 @@ position_order t c t' c' le = ⊎_elim (λ lt. inl lt) (λ over. inr (same over,
 
     after : t' ≤ t → c ≤ c'
     after over = ⊎_elim (λ before. (let past : clock t c c' ≡ t + 1 = clock_past t c c' before in absurd (omega arith))) (λ ok. ok) (cases_lt c' c)
+
+-- a moment of one of n components that is still to come
+pub record IsToCome (t c n : ℕ) (m : Moment) : Type 0 where
+  pub not_before : clock t c m.component ≤ m.at
+  pub in_range : m.component < n
 
 pub clock_next : (t c d : ℕ) → clock t c d ≤ clock t (c + 1) d
 clock_next t c d = grind (arith, nat_tests)

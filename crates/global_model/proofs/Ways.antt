@@ -11,16 +11,9 @@ use Rattle.cs_base.specs.declared.port_kind.PortKind.TheVariants.{Eth, PcieDev, 
 use Rattle.cs_base.specs.Plan.{End, same_end, first_end, second_end, uses_in, uses_of, kind_at, partner, Joins}
 use Rattle.device_api.specs.Channels.{Channel, channels}
 use Rattle.device_api.specs.World.{out_of}
+use Rattle.global_model.specs.UnderWay.{touches, latency_at}
 use Rattle.global_model.proofs.Nested.{same_end_is}
 use Rattle.global_model.proofs.TurnLaws.{same_end_itself}
-
--- the latency of the link at a port, which is that of both its channels
-abbrev pub touches : Link → End → Bool
-touches link e = same_end (first_end link) e || same_end (second_end link) e
-
-unfoldable pub latency_at : List Link → End → ℕ
-latency_at [] e = 0
-latency_at (link ∷ more) e = if touches link e then link.latency else latency_at more e
 
 partner_twice : (kind : Option PortKind) → option_map partner (option_map partner kind) ≡ kind
 partner_twice None = refl

@@ -1,5 +1,5 @@
 -- What waits at each port, in the order of sending.
-use Rattle.std.specs.Prelude.{ℕ, ◌≡◌, ◌==◌, false, if◌then◌else◌, List, [], ◌∷◌, ◌++◌, slice_get, Option, Some, option_map, option_and_then}
+use Rattle.std.specs.Prelude.{ℕ, ◌≡◌, ◌==◌, ◌≤◌, ◌<◌, false, if◌then◌else◌, List, [], ◌∷◌, ◌++◌, slice_get, Option, Some, None, option_map, option_and_then}
 use Rattle.cs_base.specs.Plan.{End, same_end}
 use Rattle.sb_message.specs.declared.message.Msg.{Msg}
 
@@ -26,3 +26,19 @@ put end message queues = λ e. if same_end end e then option_map (λ queue. queu
 abbrev pub StartsOff : ℕ → List Msg → Type 0
 StartsOff t [] = Unit {0}
 StartsOff t (m ∷ more) = (m.at == t) ≡ false
+
+-- the time of the first message of a queue, if there is one
+abbrev pub first_time : List Msg → Option ℕ
+first_time [] = None
+first_time (m ∷ more) = Some m.at
+
+-- the first message of a queue, if there is one, isn't before a time
+abbrev pub StartsFrom : ℕ → List Msg → Type 0
+StartsFrom t [] = Unit {0}
+StartsFrom t (m ∷ more) = t ≤ m.at
+
+-- the least of a time and of the first times of so many queues
+pub record IsSoonest (late count : ℕ) (queues : ℕ → List Msg) (next : ℕ) : Type 0 where
+  pub at_most : next ≤ late
+  pub heads : (p : ℕ) → p < count → StartsFrom next (queues p)
+  pub low : (t : ℕ) → t ≤ late → ((p : ℕ) → p < count → StartsFrom t (queues p)) → t ≤ next

@@ -1,4 +1,3 @@
-pub mod Places
 pub mod Inboxes
 pub mod Agenda
 pub mod Routes
@@ -6,3 +5,6 @@ pub mod Reactions
 pub mod Turn
 pub mod Post
 pub mod Step
+pub mod UnderWay
+pub mod Runs
+pub mod RunOn

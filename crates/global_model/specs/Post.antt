@@ -4,7 +4,6 @@ use Rattle.cs_base.specs.Plan.{End}
 use Rattle.sb_message.specs.declared.message.Body.{Body}
 use Rattle.sb_message.specs.declared.message.Msg.{Msg}
 use Rattle.device_api.specs.World.{Event, waiting_at}
-use Rattle.global_model.specs.declared.agenda.Moment.{Moment}
 use Rattle.global_model.specs.declared.routes.Route.{Route}
 use Rattle.global_model.specs.Inboxes.{port_of, end_at}
 use Rattle.global_model.specs.Agenda.{note}
@@ -20,14 +19,10 @@ unfoldable pub events_along : List (List (Option Route)) → ℕ → ℕ → Lis
 events_along routes from t [] = []
 events_along routes from t (sent ∷ more) = event_along (port_of routes (end_at from sent.0)) t sent.1 ++ events_along routes from t more
 
--- an event's moment
-abbrev pub moment_of : Event → Moment
-moment_of event = record { at = event.time; component = event.to.component }
-
--- the moments of events are noted
-unfoldable pub note_all : List Event → List Moment → List Moment
-note_all [] moments = moments
-note_all (event ∷ more) moments = note_all more (note (moment_of event) moments)
+-- the times of events are noted
+unfoldable pub note_all : List Event → List (Option ℕ) → List (Option ℕ)
+note_all [] dues = dues
+note_all (event ∷ more) dues = note_all more (note event.time event.to.component dues)
 
 -- a queue with what arrives at its end
 abbrev pub with_arrivals : End → List Event → Option (List Msg) → Option (List Msg)

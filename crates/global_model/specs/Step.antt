@@ -1,15 +1,13 @@
 -- One component's moment: its device reacts, its lines are logged, and what it sends is on its way.
-use Rattle.std.specs.Prelude.{ℕ, ◌≡◌, ◌+◌, ◌<◌, List, ◌++◌, length, slice_set, Option}
+use Rattle.std.specs.Prelude.{ℕ, ◌≡◌, ◌+◌, ◌<◌, ◌^◌, min, List, ◌++◌, length, slice_set, Option, Some, None}
 use Rattle.cs_base.specs.declared.link.Link.{Link}
 use Rattle.cs_base.specs.Plan.{End}
 use Rattle.sb_message.specs.declared.message.Msg.{Msg}
 use Rattle.device_api.specs.Behaviour.{Reaction, Behaviour, IsNotPast}
 use Rattle.device_api.specs.World.{react, arrivals, logged_at, Network}
-use Rattle.global_model.specs.declared.agenda.Moment.{Moment}
-use Rattle.global_model.specs.declared.component.Component.{Component}
+use Rattle.device_api.specs.declared.component.Component.{Component}
 use Rattle.global_model.specs.declared.routes.Route.{Route}
-use Rattle.global_model.specs.Agenda.{note_due}
-use Rattle.global_model.specs.Inboxes.{port_of, end_at}
+use Rattle.global_model.specs.Inboxes.{port_of, end_at, IsSoonest}
 use Rattle.global_model.specs.Post.{events_along, note_all, with_arrivals, IsRouted}
 use Rattle.global_model.specs.Reactions.{IsMoment}
 use Rattle.global_model.specs.Turn.{inputs_of, AreQueues, taken_before}
@@ -29,12 +27,18 @@ pub record IsReady {S : Type 0} (b : Behaviour S) (settled : S → ℕ → Type 
   pub not_past : IsNotPast t (b.due component.device)
   pub routed : (p : ℕ) → p < length (b.ports component.device) → IsRouted routes inboxes (end_at c p)
 
--- component c has had its moment t
-pub record HasStepped {S : Type 0} (b : Behaviour S) (settled : S → ℕ → Type 0) (t c : ℕ) (routes : List (List (Option Route))) (component : Component S) (components : List (Component S)) (inboxes : List (List (List Msg))) (agenda : List Moment) (components' : List (Component S)) (inboxes' : List (List (List Msg))) (agenda' : List Moment) : Type 0 where
+-- a due time, if there is one, cut to the latest end of a run
+abbrev pub late_of : Option ℕ → ℕ
+late_of None = 10 ^ 15
+late_of (Some due) = min due (10 ^ 15)
+
+-- component c has had its moment t, and `next` is the first time at which it has something to do again
+pub record HasStepped {S : Type 0} (b : Behaviour S) (settled : S → ℕ → Type 0) (t c : ℕ) (routes : List (List (Option Route))) (component : Component S) (components : List (Component S)) (inboxes : List (List (List Msg))) (agenda : List (Option ℕ)) (components' : List (Component S)) (inboxes' : List (List (List Msg))) (agenda' : List (Option ℕ)) (next : ℕ) : Type 0 where
   pub components_are : components' ≡ slice_set components c (component_after t component (moment_in b t c inboxes component.device))
   pub inboxes_are : (e : End) → port_of inboxes' e ≡ with_arrivals e (events_along routes c t (moment_in b t c inboxes component.device).sends) (taken_before (t + 1) c (length (b.ports component.device)) (port_of inboxes) e)
-  pub agenda_is : agenda' ≡ note_all (events_along routes c t (moment_in b t c inboxes component.device).sends) (note_due (b.due (moment_in b t c inboxes component.device).state) c agenda)
+  pub agenda_is : agenda' ≡ note_all (events_along routes c t (moment_in b t c inboxes component.device).sends) agenda
   pub whole : IsMoment b settled component.device t (moment_in b t c inboxes component.device)
+  pub soonest : IsSoonest (late_of (b.due (moment_in b t c inboxes component.device).state)) (length (b.ports component.device)) (inputs_of inboxes' c) next
 
 -- devices that start in these states, joined by links
 abbrev pub network : {S : Type 0} → Behaviour S → List S → List Link → Network S

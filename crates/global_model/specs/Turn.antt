@@ -4,8 +4,7 @@ use Rattle.cs_base.specs.declared.port_kind.PortKind.{PortKind}
 use Rattle.cs_base.specs.Plan.{End}
 use Rattle.sb_message.specs.declared.message.Msg.{Msg}
 use Rattle.sb_message.specs.Receivable.{MayReceive}
-use Rattle.device_api.specs.declared.effects.Effects.{Effects}
-use Rattle.device_api.specs.Behaviour.{Reaction, Behaviour}
+use Rattle.device_api.specs.Behaviour.{Reaction, SendsAndLines, Behaviour}
 use Rattle.device_api.specs.World.{take_all, arrivals_on}
 use Rattle.global_model.specs.Inboxes.{port_of, end_at}
 
@@ -32,7 +31,7 @@ pub record IsQueue (ports : List PortKind) (port low : ℕ) (queue : List Msg) :
   pub receivable : All (λ (m : Msg). MayReceive ports port m.body) queue
 
 -- what a device has done so far at a moment
-abbrev pub so_far : {S : Type 0} → S → Effects → Reaction S
+abbrev pub so_far : {S : Type 0} → S → SendsAndLines → Reaction S
 so_far s effects = record { state = s; sends = effects.sends; lines = effects.lines }
 
 -- a device takes what a port's queue has for t

@@ -1,25 +1,110 @@
-ghost use Rattle.std.specs.Prelude.{◌≡◌, ◌≤◌, ◌<◌, ℕ, [], length, map, All, IfOk, IfSome, slice_get, Some, true};
+ghost use Rattle.std.specs.Prelude.{◌≡◌, ◌≤◌, ◌<◌, ℕ, [], length, map, All, IfOk, IfSome, OnOk, slice_get, Some, true};
 ghost use Rattle.device_api.specs.World.{logs_of, global_until};
-ghost use Rattle.global_model.specs.declared.component.Component.{Component as Part};
+ghost use Rattle.device_api.specs.declared.component.Component.{Component as Part};
 ghost use Rattle.global_model.specs.Agenda.{has};
 ghost use Rattle.global_model.specs.Step.{network};
+ghost use Rattle.global_model.specs.UnderWay.{System, Stands};
 
-use crate::agenda::Agenda;
-use crate::component::Component;
 use crate::inboxes::Inboxes;
 use crate::routes::Routes;
+use crate::run_on::run_on;
+use crate::soonest::late;
 use crate::step::step;
 use cs_base::items::Items;
 use cs_base::no_memory::NoMemory;
+use cs_base::time::Time;
 use cs_base::wiring::Wiring;
-use device_api::{Device, Effects, Logs};
-use std::alloc::Global;
+use device_api::{Component, Device, Effects, Logs};
+use moment_tree::Agenda;
+use std::alloc;
+
+/// A run of devices that are joined by a wiring, which has come to some time: all moments before it have been
+/// processed, and no other. Events are processed by time; at one time by component; and for one component first
+/// the messages, by port and then in the order of sending, and then the device's own due time.
+#[derive(Drop)]
+pub struct Global<V> {
+    time: Time,
+    components: Vec<Component<V>>,
+    routes: Routes,
+    inboxes: Inboxes,
+    agenda: Agenda,
+    done: Effects,
+}
+
+impl<V: Device> Global<V> {
+    ghost use Rattle.global_model.specs.Runs.{system_of, IsAt, MayRunUntil, ComesTo, AreComponents, AreLogs};
+
+    /// The run of devices at their start.
+    pub fn start(
+        alloc: alloc::Global,
+        devices: Vec<V>,
+        wiring: &Wiring,
+    ) -> Result<Global<V>, NoMemory>
+        requires matches { map V.behaviour.ports devices.items ≡ wiring.now.kinds }
+        requires at_start { All (λ device. V.settled device 0) devices.items }
+        ensures { IfOk result (IsAt V.behaviour V.settled (system_of wiring.now devices.items) 0) }
+    {
+        let kinds = wiring.kinds.as_slice();
+        let routes = Routes::new(alloc, kinds, wiring.links.as_slice())?;
+        let inboxes = Inboxes::new(alloc, kinds)?;
+        let components = components_of(alloc, devices)?;
+        let agenda = first_agenda(alloc, components.as_slice())?;
+        Ok(Global {
+            time: Time(0),
+            components,
+            routes,
+            inboxes,
+            agenda,
+            done: Effects::new(alloc),
+        })
+    }
+
+    /// The time that the run has come to.
+    pub fn time(&self) -> Time
+        ensures { result ≡ self.now.time }
+    {
+        self.time
+    }
+
+    /// Processes all moments before a time, at most the end of the wiring. After `NoMemory` nothing is told of the
+    /// run.
+    pub fn advance(&mut self, alloc: alloc::Global, until: Time) -> Result<(), NoMemory>
+        requires may_run { MayRunUntil V.behaviour V.settled self.old until }
+        requires later { self.old.time ≤ until }
+        ensures { OnOk result (ComesTo V.behaviour V.settled self.old until self.new) }
+    {
+        run_until(
+            alloc,
+            self.time,
+            until,
+            &mut self.components,
+            &self.routes,
+            &mut self.inboxes,
+            &mut self.agenda,
+            &mut self.done,
+        )?;
+        self.time = until;
+        Ok(())
+    }
+
+    /// The components as they are, with their logs.
+    pub fn into_components(self) -> Vec<Component<V>>
+        ensures { AreComponents V.behaviour V.settled self result.items }
+    {
+        self.components
+    }
+
+    /// What the components have logged.
+    pub fn into_logs(self, alloc: alloc::Global) -> Result<Logs, NoMemory>
+        ensures { IfOk result (λ logs. AreLogs V.behaviour V.settled self logs.lists) }
+    {
+        finish(alloc, self.components)
+    }
+}
 
 /// Runs devices that are joined by a wiring, from their starts to the wiring's end, and gives what they logged.
-/// Events are processed by time; at one time by component; and for one component first the messages, by port and
-/// then in the order of sending, and then the device's own due time.
 pub fn simulate<V: Device>(
-    alloc: Global,
+    alloc: alloc::Global,
     devices: Vec<V>,
     wiring: &Wiring,
 ) -> Result<Logs, NoMemory>
@@ -27,39 +112,62 @@ pub fn simulate<V: Device>(
     requires at_start { All (λ device. V.settled device 0) devices.items }
     ensures { IfOk result (λ logs. logs.lists ≡ logs_of (global_until (network V.behaviour devices.items wiring.now.links) wiring.now.end)) }
 {
-    let kinds = wiring.kinds.as_slice();
-    let all_routes = Routes::new(alloc, kinds, wiring.links.as_slice())?;
-    let routes = &all_routes;
-    let mut inboxes = Inboxes::new(alloc, kinds)?;
-    let mut components = components_of(alloc, devices)?;
-    let mut agenda = first_agenda(alloc, components.as_slice())?;
-    let mut done = Effects::new(alloc);
-    let mut latest = Effects::new(alloc);
+    let mut run = Global::start(alloc, devices, wiring)?;
+    run.advance(alloc, wiring.end)?;
+    run.into_logs(alloc)
+}
+
+/// Processes all moments from a time on that are before another.
+fn run_until<V: Device>(
+    alloc: alloc::Global,
+    from: Time,
+    until: Time,
+    components: &mut Vec<Component<V>>,
+    routes: &Routes,
+    inboxes: &mut Inboxes,
+    agenda: &mut Agenda,
+    done: &mut Effects,
+) -> Result<(), NoMemory>
+    requires may_run { (system : System V) × Stands V.behaviour V.settled system routes.now from 0 components.old.items inboxes.old agenda.old × (until ≤ system.end) }
+    requires later { from ≤ until }
+    requires nothing_sent { done.old.sends ≡ [] }
+    requires nothing_logged { done.old.lines ≡ [] }
+    ensures comes { OnOk result ((system : System V) → Stands V.behaviour V.settled system routes.now from 0 components.old.items inboxes.old agenda.old → until ≤ system.end → Stands V.behaviour V.settled system routes.now until 0 components.new.items inboxes.new agenda.new) }
+    ensures all_sent { OnOk result (done.new.sends ≡ []) }
+    ensures all_logged { OnOk result (done.new.lines ≡ []) }
+{
     // How far the run has come: the components below `turn` have had their turn at `time`.
-    let mut time = 0u64;
+    let mut time = from.picoseconds();
     let mut turn = 0u32;
-    'moments: while let Some(moment) = agenda.take_first() {
-        if wiring.end <= moment.at {
-            return finish(alloc, components);
+    'moments: while let Some(moment) = agenda.first() {
+        if until <= moment.at {
+            return Ok(());
         }
-        step(
+        let next = step(alloc, &moment, components, routes, inboxes, agenda, done)?;
+        let stood = run_on(
             alloc,
-            &moment,
-            &mut components,
+            moment.component,
+            moment.at,
+            next,
+            until,
+            components,
             routes,
-            &mut inboxes,
-            &mut agenda,
-            &mut done,
-            &mut latest,
+            inboxes,
+            agenda,
+            done,
         )?;
-        time = moment.at.picoseconds();
+        agenda.set(moment.component, Some(stood.next));
+        time = stood.last.picoseconds();
         turn = moment.component + 1;
     }
-    finish(alloc, components)
+    Ok(())
 }
 
 /// Components that have logged nothing yet.
-fn components_of<V: Device>(alloc: Global, devices: Vec<V>) -> Result<Vec<Component<V>>, NoMemory>
+fn components_of<V: Device>(
+    alloc: alloc::Global,
+    devices: Vec<V>,
+) -> Result<Vec<Component<V>>, NoMemory>
     ensures { IfOk result (λ components. components.items ≡ map (λ device. record { device = device; log = [] }) devices.items) }
 {
     let mut components = Vec::new(alloc);
@@ -72,21 +180,25 @@ fn components_of<V: Device>(alloc: Global, devices: Vec<V>) -> Result<Vec<Compon
     Ok(components)
 }
 
-/// The moments at which devices are due by themselves.
-fn first_agenda<V: Device>(alloc: Global, components: &[Component<V>]) -> Result<Agenda, NoMemory>
-    requires { length components.now ≤ 64 }
+/// When devices are due by themselves.
+fn first_agenda<V: Device>(
+    alloc: alloc::Global,
+    components: &[Component<V>],
+) -> Result<Agenda, NoMemory>
+    requires some { 1 ≤ length components.now }
+    requires few { length components.now ≤ 64 }
     ensures noted { IfOk result (λ agenda. (d : ℕ) (component : Part V) → slice_get components.now d ≡ Some component → IfSome (V.behaviour.due component.device) (λ u. has u d agenda ≡ true)) }
-    ensures in_range { IfOk result (All (λ moment. moment.component < length components.now)) }
+    ensures roomy { IfOk result (λ agenda. length agenda ≡ length components.now) }
 {
-    let mut agenda = Agenda::new(alloc);
+    let mut agenda = Agenda::new(alloc, components.len())?;
     for (index, component) in components.iter().enumerate() {
-        agenda.add_due(component.device.due(), index as u32)?;
+        agenda.set(index as u32, Some(late(component.device.due())));
     }
     Ok(agenda)
 }
 
 /// The components' logs.
-fn finish<V: Device>(alloc: Global, components: Vec<Component<V>>) -> Result<Logs, NoMemory>
+fn finish<V: Device>(alloc: alloc::Global, components: Vec<Component<V>>) -> Result<Logs, NoMemory>
     ensures { IfOk result (λ logs. logs.lists ≡ map (λ component. component.log) components.items) }
 {
     let mut lists = Items::new(alloc);

@@ -1,17 +1,17 @@
 ghost use Rattle.std.specs.Prelude.{◌≡◌, ◌∷◌, ◌++◌, [], IfSome, IfNone, OnOk};
-ghost use Rattle.global_model.specs.Inboxes.{StartsOff};
+ghost use Rattle.global_model.specs.Inboxes.{StartsOff, first_time};
 
 use cs_base::no_memory::NoMemory;
+use cs_base::queue::Queue;
 use cs_base::time::Time;
 use sb_message::{Body, Msg};
 use std::alloc::Global;
-use std::collections::VecDeque;
 use std::marker::Model;
 
 /// What waits at a port, in the order of sending.
 #[derive(Drop)]
 pub struct Inbox {
-    waiting: VecDeque<Msg>,
+    waiting: Queue<Msg>,
 }
 
 impl Model for Inbox {
@@ -28,15 +28,24 @@ impl Inbox {
         ensures { result ≡ [] }
     {
         Inbox {
-            waiting: VecDeque::new(alloc),
+            waiting: Queue::new(alloc),
         }
     }
 
     pub fn push(&mut self, message: Msg) -> Result<(), NoMemory>
         ensures { OnOk result (self.new ≡ self.old ++ message ∷ []) }
     {
-        self.waiting.push_back(message)?;
-        Ok(())
+        self.waiting.push(message)
+    }
+
+    /// The time of the first message.
+    pub fn first_at(&self) -> Option<Time>
+        ensures { result ≡ first_time self.now }
+    {
+        match self.waiting.first() {
+            Some(message) => Some(message.at),
+            None => None,
+        }
     }
 
     /// Takes the first message where it has this time.
@@ -45,11 +54,11 @@ impl Inbox {
         ensures none { IfNone result (self.new ≡ self.old) }
         ensures starts_off { IfNone result (StartsOff t self.old) }
     {
-        match self.waiting.front() {
+        match self.waiting.first() {
             Some(message) if message.at == t => {}
             _ => return None,
         }
-        let Msg { at: _, body } = self.waiting.pop_front()?;
+        let Msg { at: _, body } = self.waiting.pop()?;
         Some(body)
     }
 }

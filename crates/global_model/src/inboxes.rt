@@ -1,7 +1,8 @@
 ghost use Rattle.std.specs.Prelude.{◌≡◌, ◌<◌, slice_get, ◌∷◌, ◌++◌, [], Option, Some, None, IsSome, IfSome, IfNone, IfOk, OnOk, option_map, ℕ, List};
 ghost use Rattle.cs_base.specs.Plan.{End, kind_at};
 ghost use Rattle.sb_message.specs.declared.message.Msg.{Msg as Message};
-ghost use Rattle.global_model.specs.Inboxes.{port_of, end_at, with_queue, put, StartsOff};
+ghost use Rattle.global_model.specs.Inboxes.{port_of, end_at, with_queue, put, first_time, StartsOff};
+ghost use Rattle.global_model.specs.Turn.{queue_at};
 
 use crate::inbox::Inbox;
 use cs_base::items::Items;
@@ -45,6 +46,14 @@ impl Inboxes {
         ensures { OnOk result ((e : End) → port_of self.new e ≡ put (end_at component port) message (port_of self.old) e) }
     {
         self.components[component as usize][port as usize].push(message)
+    }
+
+    /// The time of the first message of a port's queue.
+    pub fn first_at(&self, component: u32, port: u32) -> Option<Time>
+        requires { IsSome (port_of self.now (end_at component port)) }
+        ensures { result ≡ first_time (queue_at self.now (end_at component port)) }
+    {
+        self.components[component as usize][port as usize].first_at()
     }
 
     /// Takes the first message of a port's queue where it has this time.

@@ -1,17 +1,18 @@
-//! The executable global simulator: one queue for each port, and one agenda of the moments that are to come.
+//! The executable global simulator: a queue for each port, and an agenda of when each component has something to
+//! do next.
 #![tactic(auto)]
 
-mod agenda;
-mod component;
 mod global_run;
 mod inbox;
 mod inboxes;
 mod post;
 mod routes;
+mod run_on;
+mod soonest;
 mod step;
 mod turn;
 
-pub use global_run::simulate;
+pub use global_run::{Global, simulate};
 
 #[cfg(test)]
 mod tests;

@@ -3,12 +3,12 @@ ghost use Rattle.cs_base.specs.Plan.{End};
 ghost use Rattle.global_model.specs.Inboxes.{port_of};
 ghost use Rattle.global_model.specs.Post.{events_along, note_all, with_arrivals, AreRouted};
 
-use crate::agenda::Agenda;
 use crate::inboxes::Inboxes;
 use crate::routes::Routes;
 use cs_base::items::Items;
 use cs_base::no_memory::NoMemory;
 use cs_base::time::Time;
+use moment_tree::Agenda;
 use sb_message::{Body, Msg};
 
 /// Puts what a component sent at a time, by which port, into the inboxes where it arrives, and notes when.
@@ -33,7 +33,7 @@ pub fn post(
         };
         let at = Time(t.picoseconds() + route.latency.picoseconds());
         inboxes.push(route.component, route.port, Msg { at, body })?;
-        agenda.add(at, route.component)?;
+        agenda.note(route.component, at);
     }
     Ok(())
 }

@@ -1,3 +1,4 @@
 pub mod Moments
 pub mod NamedLines
 pub mod Ordered
+pub mod Merging

@@ -1,5 +1,5 @@
-ghost use Rattle.std.specs.Prelude.{◌≡◌, length, map, IfOk};
-ghost use Rattle.log_join.specs.Entries.{named_line, all_named_lines};
+ghost use Rattle.std.specs.Prelude.{◌≡◌, length, IfOk};
+ghost use Rattle.log_join.specs.Entries.{AreAll};
 
 use cs_base::name::Name;
 use cs_base::no_memory::NoMemory;
@@ -20,7 +20,7 @@ pub(crate) fn entries_of<'a>(
     names: &'a [Name],
 ) -> Result<Vec<Entry<'a>>, NoMemory>
     requires { length names.now ≡ length logs.now.lists }
-    ensures { IfOk result (λ entries. map named_line entries.items ≡ all_named_lines names.now logs.now.lists) }
+    ensures { IfOk result (λ entries. AreAll names.now logs.now.lists entries.items) }
 {
     let mut entries = Vec::new(alloc);
     'logs: for (name, log) in names.iter().zip(logs.lists.as_slice()) {

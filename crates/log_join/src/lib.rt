@@ -1,14 +1,15 @@
 //! The logs of all components, joined into one text by time.
 #![tactic(auto)]
 
-ghost use Rattle.std.specs.Prelude.{◌≡◌, ℕ, length, IfOk};
-ghost use Rattle.device_api.specs.Joined.{joined_until};
-ghost use Rattle.log_join.specs.Before.{AreBefore};
+ghost use Rattle.std.specs.Prelude.{◌≡◌, length, IfOk};
+ghost use Rattle.log_join.specs.Before.{IsJoined};
 
 mod entry;
+mod merge;
 mod text;
 
 use crate::entry::entries_of;
+use crate::merge::{merge_room, merged};
 use crate::text::text_of;
 use cs_base::items::Octets;
 use cs_base::name::Name;
@@ -22,7 +23,19 @@ use std::alloc::Global;
 /// memory is wanting.
 pub fn join(alloc: Global, logs: &Logs, names: &[Name]) -> Result<Octets, NoMemory>
     requires { length names.now ≡ length logs.now.lists }
-    ensures { IfOk result (λ text. (end : ℕ) → AreBefore end logs.now.lists → text ≡ joined_until end names.now logs.now.lists) }
+    ensures { IfOk result (IsJoined names.now logs.now.lists) }
+{
+    let lists = logs.lists.as_slice();
+    match merge_room(lists, names) {
+        Some(room) => merged(alloc, lists, names, room),
+        None => sorted(alloc, logs, names),
+    }
+}
+
+/// The joined text of any logs: all lines are sorted by time.
+fn sorted(alloc: Global, logs: &Logs, names: &[Name]) -> Result<Octets, NoMemory>
+    requires { length names.now ≡ length logs.now.lists }
+    ensures { IfOk result (IsJoined names.now logs.now.lists) }
 {
     let mut entries = entries_of(alloc, logs, names)?;
     entries.sort_by_key(|entry| entry.line.at.picoseconds())?;

@@ -1,14 +1,14 @@
 //! Joined texts from outside, and what no clause says: that a call succeeds.
 use crate::join;
 use cs_base::{Items, Name, Octets, Time};
-use device_api::{Line, Logs};
+use device_api::{Line, LineText, Logs};
 use std::alloc::Global;
 use std::test::Fail;
 
 fn log(alloc: Global, lines: &[(u64, &[u8])]) -> Result<Items<Line>, Fail> {
     let mut log = Items::new(alloc);
     for (at, bytes) in lines {
-        let mut text = Octets::new(alloc);
+        let mut text = LineText::new(alloc);
         text.append(bytes)?;
         log.push(Line {
             at: Time(*at),

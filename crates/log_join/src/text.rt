@@ -33,7 +33,7 @@ fn most_digits(at: Time) -> usize
 }
 
 /// No fewer bytes than an entry's text has, as far as a `usize` reaches.
-fn room_of(entry: Entry<'_>) -> usize
+pub(crate) fn room_of(entry: Entry<'_>) -> usize
     ensures { min (length (entry_text entry.entry)) usize.MAX ≤ result }
 {
     most_digits(entry.line.at)
@@ -52,7 +52,7 @@ fn room_for(entries: &[Entry<'_>]) -> usize
     room
 }
 
-fn write(entry: Entry<'_>, text: &mut Octets) -> Result<(), NoMemory>
+pub(crate) fn write(entry: Entry<'_>, text: &mut Octets) -> Result<(), NoMemory>
     ensures { OnOk result (text.new ≡ text.old ++ entry_text entry.entry) }
 {
     decimal(entry.line.at.picoseconds(), text)?;

@@ -17,14 +17,20 @@ overflow_add-at c =
     let in_run : c.args.t < 10 ^ 15 = c.requires.in_run in
     omega (arith, short, in_run, c.picoseconds.ensures, c.picoseconds-in-Some.ensures)
 
+pub note-requires : goal.note-requires
+note-requires c =
+    let short : c.in-Some-get.route.latency ≤ 10 ^ 12 = (next_routed c.sends.invariant c.in-Some.port c.in-Some.body c.pop.new.self c.in-Some.ensures.last).short c.in-Some-get.route c.in-Some-get.ensures in
+    let in_run : c.args.t < 10 ^ 15 = c.requires.in_run in
+    omega (arith, short, in_run, c.picoseconds.ensures, c.picoseconds-in-Some.ensures)
+
 pub push-requires : goal.push-requires
 push-requires c = (next_routed c.sends.invariant c.in-Some.port c.in-Some.body c.pop.new.self c.in-Some.ensures.last).arrives c.in-Some-get.route c.in-Some-get.ensures
 
 pub sends-preserved : goal.sends-preserved
 sends-preserved c =
-    posts_at c.sends.invariant c.in-Some.port c.in-Some.body c.pop.new.self c.in-Some-get.route (c.picoseconds.result + c.picoseconds-in-Some.result) c.push.new.self c.add.new.self c.in-Some.ensures.last c.in-Some-get.ensures
+    posts_at c.sends.invariant c.in-Some.port c.in-Some.body c.pop.new.self c.in-Some-get.route (c.picoseconds.result + c.picoseconds-in-Some.result) c.push.new.self c.note.new.self c.in-Some.ensures.last c.in-Some-get.ensures
     (ap (λ x. x + c.picoseconds-in-Some.result) c.picoseconds.ensures ∙ ap (λ x. c.args.t + x) c.picoseconds-in-Some.ensures)
-    c.in_ok-push.ensures c.in_ok-add.ensures
+    c.in_ok-push.ensures c.note.ensures
 
 pub returns-clause-arrives : goal.returns-clause-arrives
 returns-clause-arrives c = (posts_over c.sends.invariant c.in_default.ensures.none).0

@@ -1,11 +1,10 @@
 use Rattle.std.proofs.Common.{◌∙◌, ap}
-use Rattle.device_api.specs.declared.effects.Effects.{Effects}
 use Rattle.global_model.specs.Inboxes.{end_at, with_queue, port_of}
 use Rattle.global_model.proofs.TurnLaws.{may_take, takes_port_more, takes_port_fewer, takes_port_starts, takes_port_ends}
 use Rattle.global_model.proofs.turn.take_from_port.Goals as goal
 
 pub messages-init : goal.messages-init
-messages-init g c = takes_port_starts (end_at c.args.moment.now.component c.args.port) c.args.latest.now c.args.inboxes.now c.requires.there c.requires.waits c.requires.taking c.requires.no_sends c.requires.no_lines
+messages-init g c = takes_port_starts (end_at c.args.moment.now.component c.args.port) c.args.inboxes.now c.requires.there c.requires.waits c.requires.taking
 
 pub take-requires-clause-receivable : goal.take-requires-clause-receivable
 take-requires-clause-receivable g c =
@@ -20,9 +19,7 @@ messages-smaller g c =
 pub messages-preserved : goal.messages-preserved
 messages-preserved g c =
     let first = c.in-Some.ensures.first in
-    let done : Effects = record { sends = c.move_from.new.self; lines = c.move_from-in-Some.new.self } in
-    let latest : Effects = record { sends = c.move_from.new.other; lines = c.move_from-in-Some.new.other } in
-    takes_port_more c.messages.invariant g.met.V.Device.lawful c.requires.in_run c.in-Some.body first.0 c.take.new.self c.take.new.out done latest c.take_at.new.self first.1 first.2 c.in_ok-take.ensures c.in_ok-move_from.ensures.ok c.in_ok-move_from-2.ensures.ok c.in_ok-move_from.ensures.emptied c.in_ok-move_from-2.ensures.emptied
+    takes_port_more c.messages.invariant g.met.V.Device.lawful c.requires.in_run c.in-Some.body first.0 c.take.new.self c.take.new.out c.take_at.new.self first.1 first.2 c.in_ok-take.ensures
 
 pub returns-clause-reaction : goal.returns-clause-reaction
 returns-clause-reaction g c = (takes_port_ends c.messages.invariant c.in_default.ensures.starts_off).0

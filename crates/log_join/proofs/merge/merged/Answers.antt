@@ -1,0 +1,79 @@
+use Rattle.std.proofs.Common.{◌≡◌, ◌<◌, ◌≤◌, ◌+◌, ◌++◌, ◌^◌, ◌∷◌, ℕ, length, map, get_or, refl, ap, sym, subst, ◌∙◌, arith, List, Option, Some, None}
+use Rattle.std.specs.Prelude.{slice_get, slice_set, IfSome, []}
+use Rattle.std.specs.List.{All}
+use Rattle.std.proofs.lemmas.List.{length-map, map-set}
+use Rattle.std.proofs.lemmas.Option.{slice_get_read}
+use Rattle.device_api.specs.declared.logs.Line.{Line}
+use Rattle.moment_tree.specs.Dues.{IsFirst}
+use Rattle.log_join.specs.Heads.{head_time}
+use Rattle.log_join.proofs.Merging.{IsMerged, lines_left, one_written, all_written, some_line, rest_early, left_less, heads_set, rest_at, place_there}
+use Rattle.log_join.proofs.merge.merged.Goals as goal
+
+pub returns : goal.returns
+returns c = all_written c.moments.invariant.1 (subst (All (λ (due : Option ℕ). due ≡ None)) c.moments.invariant.0 c.in_default.ensures.none)
+
+pub returns-in_default-split_first : goal.returns-in_default-split_first
+returns-in_default-split_first c =
+    let place = c.in-Some.moment.component in
+    let items = c.moments.rests.items in
+    let lt = place_there (λ rest. rest.now) items c.moments.agenda place (Some c.in-Some.moment.at) c.moments.invariant.0 c.in-Some.ensures.there in
+    let at = rest_at (λ rest. rest.now) items place c.index.result.now lt c.index.ensures in
+    let some = some_line c.moments.invariant.1 place c.in-Some.moment.at (ap (λ xs. slice_get xs place) (sym c.moments.invariant.0) ∙ c.in-Some.ensures.there) c.index.result.now.now at in
+    absurd (no_head c.index.result.now.now c.in-Some.moment.at some c.in_default-split_first.ensures.cases)
+  where
+    no_head : (log : List Line) (t : ℕ) → head_time log ≡ Some t → length log ≡ 0 → ⊥
+    no_head [] t is none = absurd cc
+    no_head (line ∷ more) t is none = absurd (omega arith)
+
+pub bounds-names-place : goal.bounds-names-place
+bounds-names-place c =
+    let lt = place_there (λ rest. rest.now) c.moments.rests.items c.moments.agenda c.in-Some.moment.component (Some c.in-Some.moment.at) c.moments.invariant.0 c.in-Some.ensures.there in
+    let same = c.moments.invariant.1.same in
+    let long = length-map c.moments.rests.items (λ rest. rest.now) in
+    omega (arith, lt, same, long)
+
+pub index_mut-requires : goal.index_mut-requires
+index_mut-requires c =
+    let lt : c.in-Some.moment.component < length c.moments.rests.items = place_there (λ rest. rest.now) c.moments.rests.items c.moments.agenda c.in-Some.moment.component (Some c.in-Some.moment.at) c.moments.invariant.0 c.in-Some.ensures.there in
+    omega (arith, lt, c.moments.rests.ok)
+
+pub set-requires : goal.set-requires
+set-requires c =
+    let place = c.in-Some.moment.component in
+    let items = c.moments.rests.items in
+    let lt = place_there (λ rest. rest.now) items c.moments.agenda place (Some c.in-Some.moment.at) c.moments.invariant.0 c.in-Some.ensures.there in
+    let at = rest_at (λ rest. rest.now) items place c.index.result.now lt c.index.ensures in
+    let split = c.in-Some-split_first.ensures.cases in
+    subst (λ due. IfSome due (λ at. at < 2 ^ 57)) (sym c.first_time.ensures) (rest_early c.moments.invariant.1 place c.in-Some-split_first.line.now c.in-Some-split_first.rest.now (at ∙ ap Some split.0))
+
+pub moments-smaller : goal.moments-smaller
+moments-smaller c =
+    let place = c.in-Some.moment.component in
+    let items = c.moments.rests.items in
+    let lt = place_there (λ rest. rest.now) items c.moments.agenda place (Some c.in-Some.moment.at) c.moments.invariant.0 c.in-Some.ensures.there in
+    let at = rest_at (λ rest. rest.now) items place c.index.result.now lt c.index.ensures in
+    let split = c.in-Some-split_first.ensures.cases in
+    subst (λ xs. lines_left xs < lines_left (map (λ rest. rest.now) items)) (sym (map-set (λ rest. rest.now) items place c.in-Some-split_first.rest)) (left_less place c.in-Some-split_first.line.now c.in-Some-split_first.rest.now (map (λ rest. rest.now) items) (at ∙ ap Some split.0))
+
+pub moments-preserved : goal.moments-preserved
+moments-preserved c =
+    let place = c.in-Some.moment.component in
+    let items = c.moments.rests.items in
+    let lt = place_there (λ rest. rest.now) items c.moments.agenda place (Some c.in-Some.moment.at) c.moments.invariant.0 c.in-Some.ensures.there in
+    let at = rest_at (λ rest. rest.now) items place c.index.result.now lt c.index.ensures in
+    let split = c.in-Some-split_first.ensures.cases in
+    let line = c.in-Some-split_first.line.now in
+    let more = c.in-Some-split_first.rest.now in
+    let here = at ∙ ap Some split.0 in
+    let set = sym (map-set (λ rest. rest.now) items place c.in-Some-split_first.rest) in
+    let same = c.moments.invariant.1.same in
+    let long = length-map items (λ rest. rest.now) in
+    let below : place < length c.args.names.now = omega (arith, lt, same, long) in
+    let named = slice_get_read c.args.names.now (length c.args.names.now) place c.index-names-place.result refl below c.index-names-place.is in
+    let time = some_line c.moments.invariant.1 place c.in-Some.moment.at (ap (λ xs. slice_get xs place) (sym c.moments.invariant.0) ∙ c.in-Some.ensures.there) (line ∷ more) here in
+    let time_is : line.at ≡ c.in-Some.moment.at = cc in
+    let first = subst (λ t. IsFirst t place (map head_time (map (λ rest. rest.now) items))) (sym time_is) (subst (λ xs. IsFirst c.in-Some.moment.at place xs) c.moments.invariant.0 c.in-Some.ensures.first) in
+    subst (λ m. (c.set.new.self ≡ map head_time m) × IsMerged c.args.names.now c.args.logs.now m c.write.new.text) set (
+      heads_set (map (λ rest. rest.now) items) place more c.moments.agenda c.set.new.self c.moments.invariant.0 (c.set.ensures ∙ ap (slice_set c.moments.agenda place) c.first_time.ensures),
+      one_written c.moments.invariant.1 place c.index-names-place.result line more c.write.new.text named here first c.in_ok-write.ensures,
+    )

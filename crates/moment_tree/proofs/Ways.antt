@@ -1,0 +1,192 @@
+-- The ways from the places of a tree up to its root.
+use Rattle.std.specs.Prelude.{ℕ, suc, zero, ◌≡◌, ◌≢◌, ◌+◌, ◌*◌, ◌-◌, ◌/◌, ◌≤◌, ◌<◌, ◌⊎◌, min, List, length, get_or, refl, drop, slice_set}
+use Rattle.std.proofs.Common.{sym, ap, ◌∙◌, arith, subst, inl, inr, ⊎_elim, get_or-set_same, get_or-set_other}
+use Rattle.std.proofs.lemmas.Bool.{cases_eq, cases_lt}
+use Rattle.std.proofs.lemmas.List.{drop-set-lt}
+use Rattle.moment_tree.specs.Keys.{IsNode}
+
+-- k places up from place i
+pub halved : ℕ → ℕ → ℕ
+halved zero i = i
+halved (suc k) i = halved k i / 2
+
+pub halved_le : (k i : ℕ) → halved k i ≤ i
+unfolding halved
+halved_le zero i = omega arith
+halved_le (suc k) i = let le : halved k i ≤ i = halved_le k i in omega arith
+
+lesser : (a b c : ℕ) → a ≡ min b c → (a ≤ b) × (a ≤ c)
+lesser a b c is = (omega arith, omega arith)
+
+min_of : (a b c : ℕ) → a ≡ min b c → (a ≡ b) ⊎ (a ≡ c)
+min_of a b c is = ⊎_elim (λ lt. inl (omega arith)) (λ le. inr (omega arith)) (cases_lt b c)
+
+-- a place's two halves
+sides : (p : ℕ) → (p ≡ 2 * (p / 2)) ⊎ (p ≡ 2 * (p / 2) + 1)
+sides p = ⊎_elim (λ lt. inl (omega arith)) (λ le. inr (omega arith)) (cases_lt p (2 * (p / 2) + 1))
+
+abbrev pub AreNodes : ℕ → List ℕ → Type 0
+AreNodes n keys = (j : ℕ) → 1 ≤ j → j < n → IsNode keys j
+
+-- a place's key is at most those below it
+one_up : (keys : List ℕ) (p : ℕ) → IsNode keys (p / 2) → get_or keys (p / 2) 0 ≤ get_or keys p 0
+one_up keys p node =
+    let both : (get_or keys (p / 2) 0 ≤ get_or keys (2 * (p / 2)) 0) × (get_or keys (p / 2) 0 ≤ get_or keys (2 * (p / 2) + 1) 0) = lesser (get_or keys (p / 2) 0) (get_or keys (2 * (p / 2)) 0) (get_or keys (2 * (p / 2) + 1) 0) node in
+    ⊎_elim (λ e. subst (λ q. get_or keys (p / 2) 0 ≤ get_or keys q 0) (sym e) both.0) (λ e. subst (λ q. get_or keys (p / 2) 0 ≤ get_or keys q 0) (sym e) both.1) (sides p)
+
+pub above : (n : ℕ) (keys : List ℕ) → AreNodes n keys → (k i : ℕ) → 1 ≤ halved k i → i < 2 * n → get_or keys (halved k i) 0 ≤ get_or keys i 0
+unfolding halved
+above n keys nodes zero i some lt = omega arith
+above n keys nodes (suc k) i some lt =
+    let low : halved k i ≤ i = halved_le k i in
+    let up : get_or keys (halved k i / 2) 0 ≤ get_or keys (halved k i) 0 = one_up keys (halved k i) (nodes (halved k i / 2) some (omega arith)) in
+    let more : get_or keys (halved k i) 0 ≤ get_or keys i 0 = above n keys nodes k i (omega arith) lt in
+    omega arith
+
+-- one step up, and then more
+halved_more : (k i : ℕ) → halved k (i / 2) ≡ halved (suc k) i
+unfolding halved
+halved_more zero i = refl
+halved_more (suc k) i = ap (λ x. x / 2) (halved_more k i)
+
+-- each place is below the root
+to_root : (fuel i : ℕ) → i ≤ fuel → 1 ≤ i → (k : ℕ) × (halved k i ≡ 1)
+unfolding halved
+to_root zero i le some = absurd (omega arith)
+to_root (suc fuel) i le some = ⊎_elim (λ lt. (zero, (let one : i ≡ 1 = omega arith in one))) (λ more. up (to_root fuel (i / 2) (omega arith) (omega arith))) (cases_lt i 2)
+  where
+    up : (k : ℕ) × (halved k (i / 2) ≡ 1) → (k : ℕ) × (halved k i ≡ 1)
+    up found = (suc found.0, sym (halved_more found.0 i) ∙ found.1)
+
+-- the root's key is at most each one's
+pub least : (n : ℕ) (keys : List ℕ) → AreNodes n keys → (i : ℕ) → 1 ≤ i → i < 2 * n → get_or keys 1 0 ≤ get_or keys i 0
+least n keys nodes i some lt =
+    let way : (k : ℕ) × (halved k i ≡ 1) = to_root i i (omega arith) some in
+    subst (λ p. get_or keys p 0 ≤ get_or keys i 0) way.1 (above n keys nodes way.0 i (let one : halved way.0 i ≡ 1 = way.1 in omega arith) lt)
+
+-- and it is one component's, as each place's is
+some_from : (n : ℕ) (keys : List ℕ) → AreNodes n keys → (fuel j : ℕ) → 2 * n ≤ j + fuel → 1 ≤ j → j < 2 * n → (d : ℕ) × (d < n) × (get_or keys j 0 ≡ get_or keys (n + d) 0)
+some_from n keys nodes zero j enough some lt = absurd (omega arith)
+some_from n keys nodes (suc fuel) j enough some lt = ⊎_elim (λ below. inner below (λ i more within. some_from n keys nodes fuel i (omega arith) (omega arith) within)) leaf (cases_lt j n)
+  where
+    leaf : n ≤ j → (d : ℕ) × (d < n) × (get_or keys j 0 ≡ get_or keys (n + d) 0)
+    leaf le = let there : j ≡ n + (j - n) = omega arith in (j - n, omega arith, ap (λ i. get_or keys i 0) there)
+
+    then_more : (i : ℕ) → get_or keys j 0 ≡ get_or keys i 0 → (d : ℕ) × (d < n) × (get_or keys i 0 ≡ get_or keys (n + d) 0) → (d : ℕ) × (d < n) × (get_or keys j 0 ≡ get_or keys (n + d) 0)
+    then_more i is found = (found.0, found.1, is ∙ found.2)
+
+    inner : j < n → ((i : ℕ) → j < i → i < 2 * n → (d : ℕ) × (d < n) × (get_or keys i 0 ≡ get_or keys (n + d) 0)) → (d : ℕ) × (d < n) × (get_or keys j 0 ≡ get_or keys (n + d) 0)
+    inner below next = ⊎_elim (λ e. then_more (2 * j) e (next (2 * j) (omega arith) (omega arith))) (λ e. then_more (2 * j + 1) e (next (2 * j + 1) (omega arith) (omega arith))) (min_of (get_or keys j 0) (get_or keys (2 * j) 0) (get_or keys (2 * j + 1) 0) (nodes j some below))
+
+pub some_component's : (n : ℕ) (keys : List ℕ) → AreNodes n keys → 1 ≤ n → (d : ℕ) × (d < n) × (get_or keys 1 0 ≡ get_or keys (n + d) 0)
+some_component's n keys nodes some = some_from n keys nodes (2 * n) 1 (omega arith) (omega arith) (omega arith)
+
+-- ONE KEY PUT IN
+
+-- while the way of a key is walked up: only the place above may be wrong
+pub record IsPlaced (n c key : ℕ) (keys0 keys : List ℕ) (node best : ℕ) : Type 0 where
+  pub some : 1 ≤ node
+  pub within : node < 2 * n
+  pub sized : length keys ≡ 2 * n
+  pub here : get_or keys node 0 ≡ best
+  pub nodes : (j : ℕ) → 1 ≤ j → j < n → j ≢ node / 2 → IsNode keys j
+  pub placed : drop n keys ≡ slice_set (drop n keys0) c key
+
+node_kept : (keys : List ℕ) (i x j : ℕ) → j ≢ i → 2 * j ≢ i → 2 * j + 1 ≢ i → IsNode keys j → IsNode (slice_set keys i x) j
+node_kept keys i x j own left right node =
+    get_or-set_other keys i j x 0 own
+    ∙ node
+    ∙ ap (λ a. min a (get_or keys (2 * j + 1) 0)) (sym (get_or-set_other keys i (2 * j) x 0 left))
+    ∙ ap (λ b. min (get_or (slice_set keys i x) (2 * j) 0) b) (sym (get_or-set_other keys i (2 * j + 1) x 0 right))
+
+min_comm : (a b : ℕ) → min a b ≡ min b a
+min_comm a b = omega arith
+
+-- the least of a place and the one beside it
+of_both : (keys : List ℕ) (p q : ℕ) → 2 ≤ p → q + p ≡ 4 * (p / 2) + 1 → min (get_or keys p 0) (get_or keys q 0) ≡ min (get_or keys (2 * (p / 2)) 0) (get_or keys (2 * (p / 2) + 1) 0)
+of_both keys p q some is = ⊎_elim even odd (sides p)
+  where
+    even : p ≡ 2 * (p / 2) → min (get_or keys p 0) (get_or keys q 0) ≡ min (get_or keys (2 * (p / 2)) 0) (get_or keys (2 * (p / 2) + 1) 0)
+    even e = let other : q ≡ 2 * (p / 2) + 1 = omega arith in ap (λ x. min (get_or keys x 0) (get_or keys q 0)) e ∙ ap (λ x. min (get_or keys (2 * (p / 2)) 0) (get_or keys x 0)) other
+
+    odd : p ≡ 2 * (p / 2) + 1 → min (get_or keys p 0) (get_or keys q 0) ≡ min (get_or keys (2 * (p / 2)) 0) (get_or keys (2 * (p / 2) + 1) 0)
+    odd e = let other : q ≡ 2 * (p / 2) = omega arith in min_comm (get_or keys p 0) (get_or keys q 0) ∙ ap (λ x. min (get_or keys x 0) (get_or keys p 0)) other ∙ ap (λ x. min (get_or keys (2 * (p / 2)) 0) (get_or keys x 0)) e
+
+pub placed_start : (n c key : ℕ) (keys : List ℕ) → length keys ≡ 2 * n → c < n → AreNodes n keys → drop n (slice_set keys (n + c) key) ≡ slice_set (drop n keys) c key → length (slice_set keys (n + c) key) ≡ length keys → IsPlaced n c key keys (slice_set keys (n + c) key) (n + c) key
+placed_start n c key keys sized lt nodes dropped long = record {
+  some = omega arith;
+  within = omega arith;
+  sized = long ∙ sized;
+  here = get_or-set_same keys (n + c) key 0 (omega arith);
+  nodes = λ j some below other. node_kept keys (n + c) key j (λ e. omega arith) (λ e. other (omega arith)) (λ e. other (omega arith)) (nodes j some below);
+  placed = dropped;
+}
+
+pub placed_more : (n c key : ℕ) (keys0 keys : List ℕ) (node best other best' : ℕ) → IsPlaced n c key keys0 keys node best → 2 ≤ node → other + node ≡ 4 * (node / 2) + 1 → best' ≡ min best (get_or keys other 0) → length (slice_set keys (node / 2) best') ≡ length keys → IsPlaced n c key keys0 (slice_set keys (node / 2) best') (node / 2) best'
+placed_more n c key keys0 keys node best other best' before more is best_is long =
+    let within : node < 2 * n = before.within in
+    let sized : length keys ≡ 2 * n = before.sized in
+    let up : ℕ = node / 2 in
+    record {
+      some = omega arith;
+      within = omega arith;
+      sized = long ∙ before.sized;
+      here = get_or-set_same keys (node / 2) best' 0 (omega arith);
+      nodes = λ j some below off. ⊎_elim (λ e. subst (λ x. IsNode (slice_set keys (node / 2) best') x) (sym e) right_here) (λ ne. node_kept keys (node / 2) best' j ne (λ e. off (omega arith)) (λ e. off (omega arith)) (before.nodes j some below ne)) (cases_eq j (node / 2));
+      placed = drop-set-lt n keys (node / 2) best' (omega arith) ∙ before.placed;
+    }
+  where
+    right_here : IsNode (slice_set keys (node / 2) best') (node / 2)
+    right_here =
+        let within : node < 2 * n = before.within in
+        let sized : length keys ≡ 2 * n = before.sized in
+        get_or-set_same keys (node / 2) best' 0 (omega arith)
+        ∙ best_is
+        ∙ ap (λ x. min x (get_or keys other 0)) (sym before.here)
+        ∙ of_both keys node other more is
+        ∙ ap (λ a. min a (get_or keys (2 * (node / 2) + 1) 0)) (sym (get_or-set_other keys (node / 2) (2 * (node / 2)) best' 0 (λ e. omega arith)))
+        ∙ ap (λ b. min (get_or (slice_set keys (node / 2) best') (2 * (node / 2)) 0) b) (sym (get_or-set_other keys (node / 2) (2 * (node / 2) + 1) best' 0 (λ e. omega arith)))
+
+pub placed_all : (n c key : ℕ) (keys0 keys : List ℕ) (node best : ℕ) → IsPlaced n c key keys0 keys node best → node ≤ 1 → AreNodes n keys
+placed_all n c key keys0 keys node best placed over = λ j some below. placed.nodes j some below (λ e. omega arith)
+
+-- ALL BUT ONE
+
+-- a key is at most those of the components below a place, but for one
+pub record IsLeastBelow (n : ℕ) (keys : List ℕ) (c node best : ℕ) : Type 0 where
+  pub some : 1 ≤ node
+  pub within : node < 2 * n
+  pub bound : (i k : ℕ) → n ≤ i → i < 2 * n → i ≢ n + c → halved k i ≡ node → best ≤ get_or keys i 0
+
+pub least_start : (n : ℕ) (keys : List ℕ) (c best : ℕ) → 1 ≤ n → c < n → IsLeastBelow n keys c (n + c) best
+unfolding halved
+least_start n keys c best some lt = record { some = omega arith; within = omega arith; bound = λ i k low high other is. absurd (none i k low high other is) }
+  where
+    none : (i k : ℕ) → n ≤ i → i < 2 * n → i ≢ n + c → halved k i ≡ n + c → ⊥
+    none i zero low high other is = other is
+    none i (suc k) low high other is = let le : halved k i ≤ i = halved_le k i in omega arith
+
+pub least_more : (n : ℕ) (keys : List ℕ) (c node best other best' : ℕ) → AreNodes n keys → IsLeastBelow n keys c node best → 2 ≤ node → other + node ≡ 4 * (node / 2) + 1 → best' ≡ min best (get_or keys other 0) → IsLeastBelow n keys c (node / 2) best'
+unfolding halved
+least_more n keys c node best other best' nodes before more is best_is = record { some = omega arith; within = (let lt : node < 2 * n = before.within in omega arith); bound = bound }
+  where
+    bound : (i k : ℕ) → n ≤ i → i < 2 * n → i ≢ n + c → halved k i ≡ node / 2 → best' ≤ get_or keys i 0
+    bound i zero low high off at = let lt : node < 2 * n = before.within in absurd (omega arith)
+    bound i (suc k) low high off at = ⊎_elim own beside (cases_eq (halved k i) node)
+      where
+        own : halved k i ≡ node → best' ≤ get_or keys i 0
+        own e = let le : best ≤ get_or keys i 0 = before.bound i k low high off e in omega arith
+
+        beside : halved k i ≢ node → best' ≤ get_or keys i 0
+        beside ne =
+            let there : halved k i ≡ other = omega arith in
+            let le : get_or keys (halved k i) 0 ≤ get_or keys i 0 = above n keys nodes k i (omega arith) high in
+            let same : get_or keys (halved k i) 0 ≡ get_or keys other 0 = ap (λ x. get_or keys x 0) there in
+            omega arith
+
+pub least_all : (n : ℕ) (keys : List ℕ) (c node best : ℕ) → IsLeastBelow n keys c node best → node ≤ 1 → 1 ≤ n → (d : ℕ) → d < n → d ≢ c → best ≤ get_or keys (n + d) 0
+least_all n keys c node best below over some d lt ne =
+    let way : (k : ℕ) × (halved k (n + d) ≡ 1) = to_root (n + d) (n + d) (omega arith) (omega arith) in
+    let first : 1 ≤ node = below.some in
+    let one : node ≡ 1 = omega arith in
+    below.bound (n + d) way.0 (omega arith) (omega arith) (λ e. ne (omega arith)) (way.1 ∙ sym one)
