@@ -1,2 +1,1 @@
 pub mod AccessLaws
-pub mod StepLaws

@@ -8,6 +8,7 @@
 mod act;
 mod alu;
 mod csrs;
+mod did;
 mod parts;
 mod pending;
 mod state;

@@ -2,6 +2,8 @@ ghost use Rattle.std.specs.Prelude.{◌≡◌, ◌↔◌, ◌%◌, ◌==◌, ◌
 ghost use Rattle.rv32_core.specs.CoreState.{IsSize};
 ghost use Rattle.rv32_core.specs.Accesses.{low_bytes, loaded};
 
+use crate::act::Act;
+
 /// An access to memory that an instruction waits for. Sizes are 1, 2 and 4 bytes.
 #[derive(Clone, Copy, Debug, PartialEq, Eq)]
 pub enum Pending {
@@ -24,6 +26,29 @@ pub enum Pending {
 
 impl Pending {
     ghost use Rattle.rv32_core.specs.CoreState.{IsAccess};
+    ghost use Rattle.rv32_core.specs.Acts.{loading, storing};
+
+    // The act of a load that is pending.
+    #[inline(always)]
+    pub(crate) fn loading(self) -> Act
+        ensures { result ≡ loading self }
+    {
+        match self {
+            Pending::Load { addr, size, .. } => Act::Load { addr, size },
+            _ => Act::Done,
+        }
+    }
+
+    // The act of a store that is pending.
+    #[inline(always)]
+    pub(crate) fn storing(self) -> Act
+        ensures { result ≡ storing self }
+    {
+        match self {
+            Pending::Store { addr, size, value } => Act::Store { addr, size, value },
+            _ => Act::Done,
+        }
+    }
 
     pub(crate) fn is_valid(self) -> bool
         ensures { IsTrue result ↔ IsAccess self }
@@ -49,6 +74,7 @@ fn is_size(size: u32) -> bool
     matches!(size, 1 | 2 | 4)
 }
 
+#[inline(always)]
 pub(crate) fn is_aligned(addr: u32, size: u32) -> bool
     requires { IsSize size }
     ensures { result ≡ (addr % size == 0) }
@@ -57,6 +83,7 @@ pub(crate) fn is_aligned(addr: u32, size: u32) -> bool
 }
 
 // The number of the low bytes of a word.
+#[inline(always)]
 pub(crate) fn low_bytes(word: u32, size: u32) -> u32
     requires { IsSize size }
     ensures { result ≡ low_bytes size word }
@@ -70,6 +97,7 @@ pub(crate) fn low_bytes(word: u32, size: u32) -> u32
 
 // A register's value of a loaded one.
 #[tactic(auto, unfolding(crate::specs::Accesses::loaded))]
+#[inline(always)]
 pub(crate) fn loaded(word: u32, size: u32, signed: bool) -> u32
     requires { IsSize size }
     ensures { result ≡ loaded size signed word }

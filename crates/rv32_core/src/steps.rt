@@ -1,9 +1,10 @@
 //! One step: what the instructions have in common, and a row for each.
 
-ghost use Rattle.std.specs.Prelude.{◌≡◌, ◌%◌, slice_index, int_lt, IsTrue, false};
+ghost use Rattle.std.specs.Prelude.{◌≡◌, ◌%◌, ◌/◌, ◌*◌, slice_index, int_lt, IsTrue, false};
 ghost use Rattle.rv32_core.specs.CoreState.{registers_with};
 
 use crate::act::Act;
+use crate::did::Did;
 use crate::pending::{Pending, is_aligned, loaded, low_bytes};
 use crate::state::Core;
 use crate::{alu, csrs};
@@ -13,17 +14,30 @@ impl Core {
     ghost use Rattle.rv32_isa.specs.Bits.{word_of};
     ghost use Rattle.rv32_core.specs.Alu.{add_immediate, integer};
     ghost use Rattle.rv32_core.specs.CoreState.{register, IsSize};
+    ghost use Rattle.rv32_core.specs.Acts.{did, act_of};
     ghost use Rattle.rv32_core.specs.Execution.{trapped, passed, results, jumps, branches, loads, stores, reads, swaps, sets, clears, returns, waits, computed, executed, stepped, load_finished, store_finished, interrupted, takes_interrupt, IsLoad, IsStore, Awaits, finished, csr_or_zero};
 
     /// Runs one instruction, or takes the trap that it leads to. Nothing may be pending.
     ///
     /// `word` is the instruction's word; `None` says that the fetch was refused, which traps with cause 1. After
     /// [`Act::Load`] and [`Act::Store`] that access is pending.
+    #[inline(always)]
     pub fn step(&mut self, word: Option<u32>) -> Act
         requires { self.old.pending ≡ Pending.Nothing }
         ensures state { self.new ≡ (stepped self.old word).state }
         ensures act { result ≡ (stepped self.old word).act }
         ensures awaits { Awaits result self.new.pending }
+    {
+        let did = self.run(word);
+        self.act(did)
+    }
+
+    // A step, told without what an access asks for: an answer of one word, which the caller has in a register.
+    #[inline(never)]
+    fn run(&mut self, word: Option<u32>) -> Did
+        requires { self.old.pending ≡ Pending.Nothing }
+        ensures state { self.new ≡ (stepped self.old word).state }
+        ensures act { result ≡ did (stepped self.old word).act }
     {
         match word {
             None => self.trap(1),
@@ -31,8 +45,23 @@ impl Core {
         }
     }
 
+    // What was done, with the access that is pending and the cause of the trap.
+    #[inline(always)]
+    fn act(&self, did: Did) -> Act
+        ensures { result ≡ act_of did self.now }
+    {
+        match did {
+            Did::Done => Act::Done,
+            Did::Load => self.pending.loading(),
+            Did::Store => self.pending.storing(),
+            Did::Wait => Act::Wait,
+            Did::Trapped => Act::Trapped(self.mcause),
+        }
+    }
+
     /// Ends a pending load with the value that was read, whose low bytes count; `None` is an access fault, cause 5.
-    #[tactic(auto, unfolding(crate::specs::Execution::load_finished))]
+    #[tactic(auto, unfolding(crate::specs::Execution::load_finished, crate::specs::Execution::trapped))]
+    #[inline(always)]
     pub fn finish_load(&mut self, value: Option<u32>) -> Act
         requires { IsLoad self.old.pending }
         ensures state { self.new ≡ (load_finished self.old value).state }
@@ -40,20 +69,32 @@ impl Core {
         ensures free { self.new.pending ≡ Pending.Nothing }
     {
         match value {
-            None => self.trap(5),
-            Some(value) => self.deliver(value),
+            None => {
+                self.trap(5);
+                Act::Trapped(5)
+            }
+            Some(value) => {
+                self.deliver(value);
+                Act::Done
+            }
         }
     }
 
     /// Ends a pending store, which was done or, where `done` is false, is an access fault, cause 7.
-    #[tactic(auto, unfolding(crate::specs::Execution::store_finished))]
+    #[tactic(auto, unfolding(crate::specs::Execution::store_finished, crate::specs::Execution::trapped))]
+    #[inline(always)]
     pub fn finish_store(&mut self, done: bool) -> Act
         requires { IsStore self.old.pending }
         ensures state { self.new ≡ (store_finished self.old done).state }
         ensures act { result ≡ (store_finished self.old done).act }
         ensures free { self.new.pending ≡ Pending.Nothing }
     {
-        if done { self.pass() } else { self.trap(7) }
+        if !done {
+            self.trap(7);
+            return Act::Trapped(7);
+        }
+        self.pass();
+        Act::Done
     }
 
     /// Takes the external interrupt: a trap with cause 0x8000_000B before the next instruction.
@@ -66,18 +107,21 @@ impl Core {
         self.trap(0x8000_000B);
     }
 
+    #[inline(always)]
     fn x(&self, number: u32) -> u32
         ensures { result ≡ register self.now number }
     {
         self.registers[(number & 0x1F) as usize]
     }
 
+    #[inline(always)]
     fn address(&self, rs1: u32, imm: i32) -> u32
         ensures { result ≡ add_immediate (register self.now rs1) imm }
     {
         alu::add_immediate(self.x(rs1), imm)
     }
 
+    #[inline(always)]
     fn is_less(&self, rs1: u32, rs2: u32) -> bool
         ensures { result ≡ int_lt (integer (register self.now rs1)) (integer (register self.now rs2)) }
     {
@@ -85,9 +129,9 @@ impl Core {
     }
 
     #[tactic(auto, unfolding(crate::specs::Execution::trapped))]
-    fn trap(&mut self, cause: u32) -> Act
+    fn trap(&mut self, cause: u32) -> Did
         ensures state { self.new ≡ (trapped cause self.old).state }
-        ensures act { result ≡ (trapped cause self.old).act }
+        ensures act { result ≡ did (trapped cause self.old).act }
         ensures free { self.new.pending ≡ Pending.Nothing }
     {
         self.mepc = self.pc;
@@ -97,36 +141,39 @@ impl Core {
         self.interrupts_enabled = false;
         self.pc = self.mtvec;
         self.pending = Pending::Nothing;
-        Act::Trapped(cause)
+        Did::Trapped
     }
 
     #[tactic(auto, unfolding(crate::specs::Execution::passed))]
-    fn pass(&mut self) -> Act
+    #[inline(always)]
+    fn pass(&mut self) -> Did
         ensures state { self.new ≡ passed self.old }
-        ensures act { result ≡ Act.Done }
+        ensures act { result ≡ Did.Done }
         ensures free { self.new.pending ≡ Pending.Nothing }
     {
         self.pc = self.pc.wrapping_add(4);
         self.pending = Pending::Nothing;
-        Act::Done
+        Did::Done
     }
 
     #[tactic(auto, unfolding(crate::specs::Execution::results))]
-    fn result(&mut self, rd: u32, value: u32) -> Act
+    #[inline(always)]
+    fn result(&mut self, rd: u32, value: u32) -> Did
         ensures state { self.new ≡ (results self.old rd value).state }
-        ensures act { result ≡ (results self.old rd value).act }
+        ensures act { result ≡ did (results self.old rd value).act }
         ensures free { self.new.pending ≡ Pending.Nothing }
     {
         write(&mut self.registers, rd, value);
         self.pc = self.pc.wrapping_add(4);
         self.pending = Pending::Nothing;
-        Act::Done
+        Did::Done
     }
 
     #[tactic(auto, unfolding(crate::specs::Execution::jumps))]
-    fn jump(&mut self, rd: u32, target: u32) -> Act
+    #[inline(always)]
+    fn jump(&mut self, rd: u32, target: u32) -> Did
         ensures state { self.new ≡ (jumps self.old rd target).state }
-        ensures act { result ≡ (jumps self.old rd target).act }
+        ensures act { result ≡ did (jumps self.old rd target).act }
     {
         if target % 4 != 0 {
             return self.trap(0);
@@ -134,13 +181,14 @@ impl Core {
         write(&mut self.registers, rd, self.pc.wrapping_add(4));
         self.pc = target;
         self.pending = Pending::Nothing;
-        Act::Done
+        Did::Done
     }
 
     #[tactic(auto, unfolding(crate::specs::Execution::branches))]
-    fn branch(&mut self, imm: i32, taken: bool) -> Act
+    #[inline(always)]
+    fn branch(&mut self, imm: i32, taken: bool) -> Did
         ensures state { self.new ≡ (branches self.old imm taken).state }
-        ensures act { result ≡ (branches self.old imm taken).act }
+        ensures act { result ≡ did (branches self.old imm taken).act }
     {
         if taken {
             self.jump(0, alu::add_immediate(self.pc(), imm))
@@ -150,13 +198,14 @@ impl Core {
     }
 
     #[tactic(auto, unfolding(crate::specs::Execution::loads))]
-    fn load(&mut self, rd: u32, rs1: u32, imm: i32, size: u32, signed: bool) -> Act
+    #[inline(always)]
+    fn load(&mut self, rd: u32, rs1: u32, imm: i32, size: u32, signed: bool) -> Did
         requires size { IsSize size }
         requires word { size ≡ 4 → signed ≡ false }
         ensures state { let address = add_immediate (register self.old rs1) imm in
             self.new ≡ (loads self.old rd size signed address).state }
         ensures act { let address = add_immediate (register self.old rs1) imm in
-            result ≡ (loads self.old rd size signed address).act }
+            result ≡ did (loads self.old rd size signed address).act }
     {
         let addr = self.address(rs1, imm);
         if !is_aligned(addr, size) {
@@ -168,16 +217,17 @@ impl Core {
             rd: rd & 0x1F,
             signed,
         };
-        Act::Load { addr, size }
+        Did::Load
     }
 
     #[tactic(auto, unfolding(crate::specs::Execution::stores))]
-    fn store(&mut self, rs1: u32, rs2: u32, imm: i32, size: u32) -> Act
+    #[inline(always)]
+    fn store(&mut self, rs1: u32, rs2: u32, imm: i32, size: u32) -> Did
         requires { IsSize size }
         ensures state { let address = add_immediate (register self.old rs1) imm in
             self.new ≡ (stores self.old size address (register self.old rs2)).state }
         ensures act { let address = add_immediate (register self.old rs1) imm in
-            result ≡ (stores self.old size address (register self.old rs2)).act }
+            result ≡ did (stores self.old size address (register self.old rs2)).act }
     {
         let addr = self.address(rs1, imm);
         if !is_aligned(addr, size) {
@@ -185,13 +235,15 @@ impl Core {
         }
         let value = low_bytes(self.x(rs2), size);
         self.pending = Pending::Store { addr, size, value };
-        Act::Store { addr, size, value }
+        Did::Store
     }
 
     // The pending load's register gets its value.
-    fn deliver(&mut self, value: u32) -> Act
+    #[tactic(auto, unfolding(crate::specs::Execution::results))]
+    #[inline(always)]
+    fn deliver(&mut self, value: u32)
         ensures state { self.new ≡ (finished self.old value self.old.pending).state }
-        ensures act { result ≡ (finished self.old value self.old.pending).act }
+        ensures act { (finished self.old value self.old.pending).act ≡ Act.Done }
         ensures free { self.new.pending ≡ Pending.Nothing }
     {
         match self.pending {
@@ -200,15 +252,19 @@ impl Core {
                 rd,
                 signed,
                 ..
-            } => self.result(rd, loaded(value, size, signed)),
-            _ => self.pass(),
+            } => {
+                self.result(rd, loaded(value, size, signed));
+            }
+            _ => {
+                self.pass();
+            }
         }
     }
 
     #[tactic(auto, unfolding(crate::specs::Execution::reads))]
-    fn read_csr(&mut self, rd: u32, number: u32) -> Act
+    fn read_csr(&mut self, rd: u32, number: u32) -> Did
         ensures state { self.new ≡ (reads self.old rd number).state }
-        ensures act { result ≡ (reads self.old rd number).act }
+        ensures act { result ≡ did (reads self.old rd number).act }
     {
         match self.csr(number) {
             None => self.trap(2),
@@ -217,9 +273,9 @@ impl Core {
     }
 
     #[tactic(auto, unfolding(crate::specs::Execution::swaps))]
-    fn swap_csr(&mut self, rd: u32, number: u32, value: u32) -> Act
+    fn swap_csr(&mut self, rd: u32, number: u32, value: u32) -> Did
         ensures state { self.new ≡ (swaps self.old rd number value).state }
-        ensures act { result ≡ (swaps self.old rd number value).act }
+        ensures act { result ≡ did (swaps self.old rd number value).act }
     {
         if number == csrs::MHARTID {
             return self.trap(2);
@@ -241,9 +297,9 @@ impl Core {
     }
 
     #[tactic(auto, unfolding(crate::specs::Execution::sets))]
-    fn set_csr(&mut self, rd: u32, number: u32, source: u32, bits: u32) -> Act
+    fn set_csr(&mut self, rd: u32, number: u32, source: u32, bits: u32) -> Did
         ensures state { self.new ≡ (sets self.old rd number source bits).state }
-        ensures act { result ≡ (sets self.old rd number source bits).act }
+        ensures act { result ≡ did (sets self.old rd number source bits).act }
     {
         if source == 0 {
             return self.read_csr(rd, number);
@@ -252,9 +308,9 @@ impl Core {
     }
 
     #[tactic(auto, unfolding(crate::specs::Execution::clears))]
-    fn clear_csr(&mut self, rd: u32, number: u32, source: u32, bits: u32) -> Act
+    fn clear_csr(&mut self, rd: u32, number: u32, source: u32, bits: u32) -> Did
         ensures state { self.new ≡ (clears self.old rd number source bits).state }
-        ensures act { result ≡ (clears self.old rd number source bits).act }
+        ensures act { result ≡ did (clears self.old rd number source bits).act }
     {
         if source == 0 {
             return self.read_csr(rd, number);
@@ -262,52 +318,53 @@ impl Core {
         self.swap_csr(rd, number, self.csr_or_zero(number) & !bits)
     }
 
-    fn set_csr_immediate(&mut self, rd: u32, number: u32, imm: i32) -> Act
+    fn set_csr_immediate(&mut self, rd: u32, number: u32, imm: i32) -> Did
         ensures state { self.new ≡ (sets self.old rd number (word_of imm) (word_of imm)).state }
-        ensures act { result ≡ (sets self.old rd number (word_of imm) (word_of imm)).act }
+        ensures act { result ≡ did (sets self.old rd number (word_of imm) (word_of imm)).act }
     {
         let bits = imm.cast_unsigned();
         self.set_csr(rd, number, bits, bits)
     }
 
-    fn clear_csr_immediate(&mut self, rd: u32, number: u32, imm: i32) -> Act
+    fn clear_csr_immediate(&mut self, rd: u32, number: u32, imm: i32) -> Did
         ensures state { self.new ≡ (clears self.old rd number (word_of imm) (word_of imm)).state }
-        ensures act { result ≡ (clears self.old rd number (word_of imm) (word_of imm)).act }
+        ensures act { result ≡ did (clears self.old rd number (word_of imm) (word_of imm)).act }
     {
         let bits = imm.cast_unsigned();
         self.clear_csr(rd, number, bits, bits)
     }
 
     #[tactic(auto, unfolding(crate::specs::Execution::returns))]
-    fn return_from_trap(&mut self) -> Act
+    fn return_from_trap(&mut self) -> Did
         ensures state { self.new ≡ returns self.old }
-        ensures act { result ≡ Act.Done }
+        ensures act { result ≡ Did.Done }
     {
         self.interrupts_enabled = self.previously_enabled;
         self.previously_enabled = true;
         self.pc = self.mepc;
         self.pending = Pending::Nothing;
-        Act::Done
+        Did::Done
     }
 
     #[tactic(auto, unfolding(crate::specs::Execution::waits))]
-    fn wait(&mut self) -> Act
+    fn wait(&mut self) -> Did
         ensures state { self.new ≡ (waits self.old).state }
-        ensures act { result ≡ (waits self.old).act }
+        ensures act { result ≡ did (waits self.old).act }
     {
         let wakes = self.wakes();
         self.pass();
-        if wakes { Act::Done } else { Act::Wait }
+        if wakes { Did::Done } else { Did::Wait }
     }
 
     #[tactic(auto, unfolding(crate::specs::Execution::executed))]
-    fn execute(&mut self, instr: Instr) -> Act
+    #[inline(always)]
+    fn execute(&mut self, instr: Instr) -> Did
         ensures state { self.new ≡ (executed instr self.old).state }
-        ensures act { result ≡ (executed instr self.old).act }
+        ensures act { result ≡ did (executed instr self.old).act }
     {
         match instr {
             Instr::Jal { rd, imm } => self.jump(rd, alu::add_immediate(self.pc(), imm)),
-            Instr::Jalr { rd, rs1, imm } => self.jump(rd, self.address(rs1, imm) & !1),
+            Instr::Jalr { rd, rs1, imm } => self.jump(rd, even(self.address(rs1, imm))),
             Instr::Beq { rs1, rs2, imm } => self.branch(imm, self.x(rs1) == self.x(rs2)),
             Instr::Bne { rs1, rs2, imm } => self.branch(imm, self.x(rs1) != self.x(rs2)),
             Instr::Blt { rs1, rs2, imm } => self.branch(imm, self.is_less(rs1, rs2)),
@@ -338,9 +395,10 @@ impl Core {
     }
 
     #[tactic(auto, unfolding(crate::specs::Execution::computed))]
-    fn compute(&mut self, instr: Instr) -> Act
+    #[inline(always)]
+    fn compute(&mut self, instr: Instr) -> Did
         ensures state { self.new ≡ (computed instr self.old).state }
-        ensures act { result ≡ (computed instr self.old).act }
+        ensures act { result ≡ did (computed instr self.old).act }
     {
         match instr {
             Instr::Lui { rd, imm } => self.result(rd, alu::upper(imm)),
@@ -380,7 +438,16 @@ impl Core {
     }
 }
 
+// The target of JALR, whose lowest bit is cleared.
+#[inline(always)]
+fn even(target: u32) -> u32
+    ensures { result ≡ target / 2 * 2 }
+{
+    target & !1
+}
+
 // A write to a register; one to register 0 changes nothing.
+#[inline(always)]
 fn write(registers: &mut [u32; 32], rd: u32, value: u32)
     ensures written { registers.new ≡ registers_with registers.old rd value }
     ensures zero_register { slice_index registers.old 0 ≡ 0 → slice_index registers.new 0 ≡ 0 }

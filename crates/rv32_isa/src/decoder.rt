@@ -12,6 +12,7 @@ use crate::word::Word;
 ///
 /// The listings of RV32I, RV32M, Zicsr and Zifencei in the RISC-V unprivileged ISA say which word is which; MRET and WFI
 /// are of the privileged ISA. FENCE and FENCE.I are read whatever their other bits are.
+#[inline(always)]
 pub fn decode(word: u32) -> Instr
     ensures value { result ≡ decoded word }
 
@@ -22,6 +23,7 @@ pub fn decode(word: u32) -> Instr
 }
 
 #[tactic(auto, unfolding(crate::specs::Table::decoded, crate::specs::Table::opcode_rows))]
+#[inline(always)]
 fn instruction(word: Word) -> Instr
     ensures { result ≡ decoded word.0 }
 {
@@ -51,6 +53,7 @@ fn instruction(word: Word) -> Instr
 }
 
 #[tactic(auto, unfolding(crate::specs::Table::jalr_rows))]
+#[inline(always)]
 fn jalr(word: Word) -> Instr
     ensures { result ≡ select (funct3_in word.0)
         (jalr_rows (rd_in word.0) (rs1_in word.0) (i_immediate_in word.0)) }
@@ -66,6 +69,7 @@ fn jalr(word: Word) -> Instr
 }
 
 #[tactic(auto, unfolding(crate::specs::Table::branch_rows))]
+#[inline(always)]
 fn branch(word: Word) -> Instr
     ensures { result ≡ select (funct3_in word.0)
         (branch_rows (rs1_in word.0) (rs2_in word.0) (b_immediate_in word.0)) }
@@ -85,6 +89,7 @@ fn branch(word: Word) -> Instr
 }
 
 #[tactic(auto, unfolding(crate::specs::Table::load_rows))]
+#[inline(always)]
 fn load(word: Word) -> Instr
     ensures { result ≡ select (funct3_in word.0)
         (load_rows (rd_in word.0) (rs1_in word.0) (i_immediate_in word.0)) }
@@ -103,6 +108,7 @@ fn load(word: Word) -> Instr
 }
 
 #[tactic(auto, unfolding(crate::specs::Table::store_rows))]
+#[inline(always)]
 fn store(word: Word) -> Instr
     ensures { result ≡ select (funct3_in word.0)
         (store_rows (rs1_in word.0) (rs2_in word.0) (s_immediate_in word.0)) }
@@ -119,6 +125,7 @@ fn store(word: Word) -> Instr
 }
 
 #[tactic(auto, unfolding(crate::specs::Table::immediate_rows))]
+#[inline(always)]
 fn immediate(word: Word) -> Instr
     ensures { result ≡ select (funct3_in word.0)
         (immediate_rows (funct7_in word.0) (rd_in word.0) (rs1_in word.0) (i_immediate_in word.0)
@@ -141,6 +148,7 @@ fn immediate(word: Word) -> Instr
 }
 
 #[tactic(auto, unfolding(crate::specs::Table::left_shift_rows))]
+#[inline(always)]
 fn left_shift(word: Word) -> Instr
     ensures { result ≡ select (funct7_in word.0)
         (left_shift_rows (rd_in word.0) (rs1_in word.0) (shift_amount_in word.0)) }
@@ -156,6 +164,7 @@ fn left_shift(word: Word) -> Instr
 }
 
 #[tactic(auto, unfolding(crate::specs::Table::right_shift_rows))]
+#[inline(always)]
 fn right_shift(word: Word) -> Instr
     ensures { result ≡ select (funct7_in word.0)
         (right_shift_rows (rd_in word.0) (rs1_in word.0) (shift_amount_in word.0)) }
@@ -171,6 +180,7 @@ fn right_shift(word: Word) -> Instr
 }
 
 #[tactic(auto, unfolding(crate::specs::Table::register_rows))]
+#[inline(always)]
 fn register(word: Word) -> Instr
     ensures { result ≡ select (funct7_in word.0)
         (register_rows (funct3_in word.0) (rd_in word.0) (rs1_in word.0) (rs2_in word.0)) }
@@ -184,6 +194,7 @@ fn register(word: Word) -> Instr
 }
 
 #[tactic(auto, unfolding(crate::specs::Table::base_rows))]
+#[inline(always)]
 fn base(word: Word) -> Instr
     ensures { result ≡ select (funct3_in word.0)
         (base_rows (rd_in word.0) (rs1_in word.0) (rs2_in word.0)) }
@@ -205,6 +216,7 @@ fn base(word: Word) -> Instr
 }
 
 #[tactic(auto, unfolding(crate::specs::Table::alternate_rows))]
+#[inline(always)]
 fn alternate(word: Word) -> Instr
     ensures { result ≡ select (funct3_in word.0)
         (alternate_rows (rd_in word.0) (rs1_in word.0) (rs2_in word.0)) }
@@ -220,6 +232,7 @@ fn alternate(word: Word) -> Instr
 }
 
 #[tactic(auto, unfolding(crate::specs::Table::multiply_rows))]
+#[inline(always)]
 fn multiply(word: Word) -> Instr
     ensures { result ≡ select (funct3_in word.0)
         (multiply_rows (rd_in word.0) (rs1_in word.0) (rs2_in word.0)) }
@@ -241,6 +254,7 @@ fn multiply(word: Word) -> Instr
 }
 
 #[tactic(auto, unfolding(crate::specs::Table::fence_rows))]
+#[inline(always)]
 fn fence(word: Word) -> Instr
     ensures { result ≡ select (funct3_in word.0)
         (fence_rows (fence_bits_in word.0)) }
@@ -254,6 +268,7 @@ fn fence(word: Word) -> Instr
 }
 
 #[tactic(auto, unfolding(crate::specs::Table::privileged_rows))]
+#[inline(always)]
 fn privileged(word: Word) -> Instr
     ensures { result ≡ select word.0 privileged_rows }
 {
@@ -267,6 +282,7 @@ fn privileged(word: Word) -> Instr
 }
 
 #[tactic(auto, unfolding(crate::specs::Table::system_rows))]
+#[inline(always)]
 fn system(word: Word) -> Instr
     ensures { result ≡ select (funct3_in word.0)
         (system_rows word.0 (rd_in word.0) (rs1_in word.0) (csr_immediate_in word.0)

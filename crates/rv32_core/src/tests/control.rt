@@ -103,16 +103,6 @@ const JUMPS: [(u32, u32, u32, u32); 13] = [
     (0xFFF0_81E7, 0x8000_0001, 0x8000_0000, 0x8000_0004),
 ];
 
-// Branches that are taken, with the offsets 4, -4, the greatest, the least, 2048 and 0: the word, and the pc afterwards.
-const FAR: [(u32, u32); 6] = [
-    (0x0020_8263, 0x8000_0004),
-    (0xFE20_8EE3, 0x7FFF_FFFC),
-    (0x7E20_8EE3, 0x8000_0FFC),
-    (0x8020_8063, 0x7FFF_F000),
-    (0x0020_80E3, 0x8000_0800),
-    (0x0020_8063, 0x8000_0000),
-];
-
 // Branches and jumps to targets that are no multiple of four: the word, x1, x2 and whether it is taken.
 const MISALIGNED: [(u32, u32, u32, bool); 16] = [
     (0x0020_8163, 0, 0, true),
@@ -154,15 +144,6 @@ fn branches_at_corners(rt: HostRuntime) {
 }
 
 #[test]
-fn branches_far(rt: HostRuntime) {
-    for (word, pc) in FAR {
-        let mut core = Core::from_parts(0, parts(0, 0)).expect(&rt, "valid parts");
-        assert!(rt; step(&mut core, word) == Some(Act::Done), "{word}");
-        assert_eq!(rt; core.pc(), pc, "{word}");
-    }
-}
-
-#[test]
 fn jumps_and_links(rt: HostRuntime) {
     for (word, x1, pc, x3) in JUMPS {
         let mut core = Core::from_parts(0, parts(x1, 0)).expect(&rt, "valid parts");
@@ -170,15 +151,6 @@ fn jumps_and_links(rt: HostRuntime) {
         assert_eq!(rt; core.pc(), pc, "{word} {x1}");
         assert_eq!(rt; core.reg(3), x3, "{word} {x1}");
     }
-}
-
-// `jalr x1, 0(x1)`: the target is of the old x1.
-#[test]
-fn jumps_to_the_register_that_it_links(rt: HostRuntime) {
-    let mut core = Core::from_parts(0, parts(0x8000_2000, 0)).expect(&rt, "valid parts");
-    assert!(rt; step(&mut core, 0x0000_80E7) == Some(Act::Done));
-    assert_eq!(rt; core.pc(), 0x8000_2000);
-    assert_eq!(rt; core.reg(1), 0x8000_0004);
 }
 
 // The trap's mepc is the address of the branch or jump, and no register is written.

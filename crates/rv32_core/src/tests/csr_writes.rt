@@ -167,32 +167,3 @@ fn only_reads_can_be_of_mhartid(rt: HostRuntime) {
         }
     }
 }
-
-// `csrrw x1, mscratch, x1` swaps, and `csrrw x0, mscratch, x1` leaves x0.
-#[test]
-fn swaps_a_register_with_a_csr(rt: HostRuntime) {
-    let mut core = Core::from_parts(5, written(7)).expect(&rt, "valid parts");
-    assert!(rt; step(&mut core, 0x3400_90F3) == Some(Act::Done));
-    assert_eq!(rt; core.reg(1), 0xA5A5_00FF);
-    assert_eq!(rt; core.csr(0x340), Some(7));
-    assert!(rt; step(&mut core, 0x3400_9073) == Some(Act::Done));
-    assert_eq!(rt; core.reg(0), 0);
-    assert_eq!(rt; core.csr(0x340), Some(0xA5A5_00FF));
-}
-
-// `csrrs x3, mie, x1` and `csrrc x3, mie, x1`, each twice.
-#[test]
-fn sets_and_clears_the_external_enable(rt: HostRuntime) {
-    let mut core = Core::from_parts(5, parts(0x800, 0)).expect(&rt, "valid parts");
-    let rows = [
-        (0x3040_A1F3, 0, 0x800),
-        (0x3040_A1F3, 0x800, 0x800),
-        (0x3040_B1F3, 0x800, 0),
-        (0x3040_B1F3, 0, 0),
-    ];
-    for (word, before, after) in rows {
-        assert!(rt; step(&mut core, word) == Some(Act::Done));
-        assert_eq!(rt; core.reg(3), before, "{word} {after}");
-        assert_eq!(rt; core.csr(0x304), Some(after), "{word} {before}");
-    }
-}

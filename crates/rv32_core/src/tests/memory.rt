@@ -102,15 +102,6 @@ const STORES: [Access; 3] = [
     },
 ];
 
-// `lb x3` and `sb x2` at an immediate from x1: the words, x1 and the address.
-const ADDRESSES: [(u32, u32, u32, u32); 5] = [
-    (0x0000_8183, 0x0020_8023, 0, 0),
-    (0xFFF0_8183, 0xFE20_8FA3, 0, 0xFFFF_FFFF),
-    (0x7FF0_8183, 0x7E20_8FA3, 0xFFFF_FFFF, 0x7FE),
-    (0x8000_8183, 0x8020_8023, 0x8000_0000, 0x7FFF_F800),
-    (0x0010_8183, 0x0020_80A3, 0x7FFF_FFFF, 0x8000_0000),
-];
-
 // Accesses that are not aligned: the word, x1 and the cause.
 const MISALIGNED: [(u32, u32, u32); 11] = [
     (0x0000_9183, 0x8000_0001, 4),
@@ -169,22 +160,6 @@ fn stores_at_corners(rt: HostRuntime) {
 }
 
 #[test]
-fn addresses_wrap(rt: HostRuntime) {
-    for (load, store, x1, addr) in ADDRESSES {
-        let size = 1;
-        let mut core = Core::from_parts(0, parts(x1, 0x80)).expect(&rt, "valid parts");
-        assert!(rt;
-            step(&mut core, load) == Some(Act::Load { addr, size }),
-            "{load}"
-        );
-        let mut core = Core::from_parts(0, parts(x1, 0x80)).expect(&rt, "valid parts");
-        let value = 0x80;
-        let asked = Act::Store { addr, size, value };
-        assert!(rt; step(&mut core, store) == Some(asked), "{store}");
-    }
-}
-
-#[test]
 fn misaligned_accesses_trap(rt: HostRuntime) {
     for (word, x1, cause) in MISALIGNED {
         let mut core = Core::from_parts(0, parts(x1, 0)).expect(&rt, "valid parts");
@@ -195,19 +170,4 @@ fn misaligned_accesses_trap(rt: HostRuntime) {
         assert_eq!(rt; core.csr(0x341), Some(0x8000_0000));
         assert_eq!(rt; core.pc(), 0x8000_0100);
     }
-}
-
-#[test]
-fn a_refused_load_traps(rt: HostRuntime) {
-    let mut core = Core::from_parts(0, parts(0x8000_1000, 0)).expect(&rt, "valid parts");
-    let asked = Act::Load {
-        addr: 0x8000_1000,
-        size: 4,
-    };
-    assert!(rt; step(&mut core, 0x0000_A183) == Some(asked));
-    if let Pending::Load { .. } = core.pending() {
-        assert!(rt; core.finish_load(None) == Act::Trapped(5));
-    }
-    assert_eq!(rt; core.reg(3), 0);
-    assert_eq!(rt; core.csr(0x341), Some(0x8000_0000));
 }

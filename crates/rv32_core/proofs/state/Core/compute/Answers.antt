@@ -1,6 +1,7 @@
 use Rattle.std.proofs.Common.{◌≡◌, refl, ◌∙◌, ap}
 use Rattle.rv32_isa.specs.declared.instr.Instr.{Instr}
 use Rattle.rv32_isa.specs.declared.instr.Instr.TheVariants.{Lui, Auipc, Addi, Slti, Sltiu, Xori, Ori, Andi, Slli, Srli, Srai, Add, Sub, Sll, Slt, Sltu, Xor, Srl, Sra, Or, And, Mul, Mulh, Mulhsu, Mulhu, Div, Divu, Rem, Remu}
+use Rattle.rv32_core.specs.Acts.{did}
 use Rattle.rv32_core.specs.CoreState.{CoreState}
 use Rattle.rv32_core.specs.Execution.{Outcome, computed, trapped}
 use Rattle.rv32_core.proofs.state.Core.compute.Goals as goal
@@ -44,4 +45,4 @@ pub returns-in_default-clause-state : goal.returns-in_default-clause-state
 returns-in_default-clause-state c = c.trap.ensures.state ∙ ap (λ (o : Outcome). o.state) (rest c.args.instr c.args.self.now c refl)
 
 pub returns-in_default-clause-act : goal.returns-in_default-clause-act
-returns-in_default-clause-act c = c.trap.ensures.act ∙ ap (λ (o : Outcome). o.act) (rest c.args.instr c.args.self.now c refl)
+returns-in_default-clause-act c = c.trap.ensures.act ∙ ap (λ (o : Outcome). did o.act) (rest c.args.instr c.args.self.now c refl)

@@ -1,9 +1,11 @@
-use Rattle.rv32_core.proofs.StepLaws.{awaits_at, trapped_agrees, executed_agrees}
+use Rattle.rv32_core.specs.StepLaws.{act_at, awaits_at, stepped_agrees}
 use Rattle.rv32_core.proofs.state.Core.step.Goals as goal
 
-pub returns-in-None-clause-awaits : goal.returns-in-None-clause-awaits
-returns-in-None-clause-awaits c = awaits_at _ _ _ (trapped_agrees 1 c.args.self.now) c.trap.ensures.state c.trap.ensures.act
+pub returns-clause-act : goal.returns-clause-act
+returns-clause-act c =
+    act_at _ _ _ _ (stepped_agrees c.args.self.now c.args.word) c.run-did.ensures.state c.run-did.ensures.act c.act.ensures
 
-pub returns-in-Some-clause-awaits : goal.returns-in-Some-clause-awaits
-returns-in-Some-clause-awaits c =
-    awaits_at _ _ _ (executed_agrees c.decode.result c.args.self.now) c.execute.ensures.state c.execute.ensures.act
+pub returns-clause-awaits : goal.returns-clause-awaits
+returns-clause-awaits c =
+    let agrees = stepped_agrees c.args.self.now c.args.word in
+    awaits_at _ _ _ agrees c.run-did.ensures.state (act_at _ _ _ _ agrees c.run-did.ensures.state c.run-did.ensures.act c.act.ensures)

@@ -1,0 +1,6 @@
+pub mod Machine
+pub mod Console
+pub mod Accesses
+pub mod Arrivals
+pub mod Host
+pub mod HostLaws
