@@ -1,0 +1,9 @@
+pub mod State
+pub mod Checksum
+pub mod Arrival
+pub mod Receiving
+pub mod Sending
+pub mod Access
+pub mod Valid
+pub mod Adapter
+pub mod AdapterLaws
