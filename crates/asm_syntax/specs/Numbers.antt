@@ -1,19 +1,13 @@
 -- Numbers as the language writes them, and the range of each number's place.
 use Rattle.std.specs.Prelude.{ℕ, ◌+◌, ◌-◌, ◌*◌, ◌^◌, min, Bool, ◌&&◌, ◌==◌, nat_lt, nat_le, ℤ, pos, negsuc, neg_ℤ, int_le, List, [], ◌∷◌, length, take, drop, codes, Option, Some, None, option_map, option_and_then, Result, Ok, Err, if◌then◌else◌}
 use Rattle.std.specs.Str.{bytes_eq}
+use Rattle.cs_base.specs.Texts.{hexadecimal_value}
 use Rattle.asm_syntax.specs.declared.line.LineBad.{LineBad}
 use Rattle.asm_syntax.specs.declared.line.LineBad.TheVariants.{BadLine, OutOfRange}
 use Rattle.asm_syntax.specs.declared.range.Range.{Range}
 use Rattle.asm_syntax.specs.declared.range.Range.TheVariants.{Immediate, Amount, Upper, CsrNumber, LoadImmediate, Word, Byte, Space}
 
--- the value of a digit of base sixteen: `0` to `9`, `a` to `f`, `A` to `F`
-abbrev pub hexadecimal_digit : ℕ → Option ℕ
-hexadecimal_digit byte =
-    if nat_le 48 byte && nat_le byte 57 then Some (byte - 48)
-    else if nat_le 97 byte && nat_le byte 102 then Some (byte - 87)
-    else if nat_le 65 byte && nat_le byte 70 then Some (byte - 55)
-    else None
-
+-- a digit that is one of a base
 abbrev pub below : ℕ → Option ℕ → Option ℕ
 below base None = None
 below base (Some digit) = if nat_lt digit base then Some digit else None
@@ -22,7 +16,7 @@ below base (Some digit) = if nat_lt digit base then Some digit else None
 abbrev pub spelled_on : (base so_far : ℕ) → List ℕ → Option ℕ
 spelled_on base so_far [] = Some so_far
 spelled_on base so_far (byte ∷ bytes) =
-    option_and_then (λ digit. spelled_on base (so_far * base + digit) bytes) (below base (hexadecimal_digit byte))
+    option_and_then (λ digit. spelled_on base (so_far * base + digit) bytes) (below base (hexadecimal_value byte))
 
 -- the number that one digit or more spell
 unfoldable pub spelled : (base : ℕ) → List ℕ → Option ℕ

@@ -1,5 +1,5 @@
 //! The statements with labels, by the form of their operands.
-ghost use Rattle.std.specs.Prelude.{◌≡◌, IfOk};
+ghost use Rattle.std.specs.Prelude.{◌≡◌};
 ghost use Rattle.asm_syntax.specs.Stops.{Stops};
 ghost use Rattle.asm_syntax.specs.Statements.{branch, jump_and_link, jump, load_address, word};
 
@@ -10,15 +10,8 @@ use crate::places::{label, number, register};
 use crate::range::Range;
 use crate::statement::{Condition, Statement};
 use crate::stop::Stop;
-use cs_base::{NoMemory, Octets};
+use cs_base::Octets;
 use std::alloc::Global;
-
-/// A word as a label.
-pub(crate) fn octets(alloc: Global, word: &[u8]) -> Result<Octets, NoMemory>
-    ensures { IfOk result (λ bytes. bytes ≡ word.now) }
-{
-    Ok(Octets::from_vec(Vec::from_slice(alloc, word)?))
-}
 
 /// `rs1, rs2, label`.
 #[tactic(auto, unfolding(crate::specs::Statements::branch))]
@@ -35,7 +28,7 @@ pub(crate) fn branch(
         condition,
         rs1,
         rs2,
-        to: octets(alloc, to)?,
+        to: Octets::from_slice(alloc, to)?,
     })
 }
 
@@ -48,7 +41,7 @@ pub(crate) fn jump_and_link(alloc: Global, operands: &[u8]) -> Result<Statement,
     let (rd, ()) = both(register(rd), label(to))?;
     Ok(Statement::Jump {
         rd,
-        to: octets(alloc, to)?,
+        to: Octets::from_slice(alloc, to)?,
     })
 }
 
@@ -61,7 +54,7 @@ pub(crate) fn jump(alloc: Global, operands: &[u8]) -> Result<Statement, Stop>
     label(to)?;
     Ok(Statement::Jump {
         rd: 0,
-        to: octets(alloc, to)?,
+        to: Octets::from_slice(alloc, to)?,
     })
 }
 
@@ -74,7 +67,7 @@ pub(crate) fn load_address(alloc: Global, operands: &[u8]) -> Result<Statement, 
     let (rd, ()) = both(register(rd), label(to))?;
     Ok(Statement::LoadAddress {
         rd,
-        to: octets(alloc, to)?,
+        to: Octets::from_slice(alloc, to)?,
     })
 }
 
@@ -85,7 +78,7 @@ pub(crate) fn word(alloc: Global, operands: &[u8]) -> Result<Statement, Stop>
 {
     let value = one(operands)?;
     if is_name(value) {
-        return Ok(Statement::WordOf(octets(alloc, value)?));
+        return Ok(Statement::WordOf(Octets::from_slice(alloc, value)?));
     }
     Ok(Statement::Word(number(Range::Word, value)?))
 }

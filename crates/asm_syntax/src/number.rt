@@ -1,30 +1,20 @@
 //! Numbers as the language writes them.
 ghost use Rattle.std.specs.Prelude.{◌≡◌, ◌<◌, ◌≤◌, ◌^◌, min, ◌≤ℤ◌, IfSome, IfOk, option_map};
-ghost use Rattle.asm_syntax.specs.Numbers.{hexadecimal_digit, below, spelled, number_of, in_range, least, greatest, clipped};
+ghost use Rattle.cs_base.specs.Texts.{hexadecimal_value};
+ghost use Rattle.asm_syntax.specs.Numbers.{below, spelled, number_of, in_range, least, greatest, clipped};
 
 use crate::line::LineBad;
 use crate::range::Range;
+use cs_base::hexadecimal_value;
 
 /// No place takes a number of this size or more, so a greater one is read as this.
 const LIMIT: u64 = 0x2_0000_0000;
 
-fn hexadecimal_digit(byte: u8) -> Option<u8>
-    ensures value { result ≡ hexadecimal_digit byte }
-    ensures small { IfSome result (λ digit. digit < 16) }
-{
-    match byte {
-        b'0'..=b'9' => Some(byte - b'0'),
-        b'a'..=b'f' => Some(byte - b'a' + 10),
-        b'A'..=b'F' => Some(byte - b'A' + 10),
-        _ => None,
-    }
-}
-
 fn digit(base: u64, byte: u8) -> Option<u64>
-    ensures value { result ≡ below base (hexadecimal_digit byte) }
+    ensures value { result ≡ below base (hexadecimal_value byte) }
     ensures small { IfSome result (λ digit. digit < 16) }
 {
-    match hexadecimal_digit(byte) {
+    match hexadecimal_value(byte) {
         Some(digit) if u64::from(digit) < base => Some(u64::from(digit)),
         _ => None,
     }

@@ -10,14 +10,14 @@ use crate::forms::{
     access, access_immediate, alone, byte, computation, immediate_computation, load,
     load_immediate, move_register, shift, space, store, upper,
 };
-use crate::label_forms::{branch, jump, jump_and_link, load_address, octets, word};
+use crate::label_forms::{branch, jump, jump_and_link, load_address, word};
 use crate::line::{Line, LineBad};
 use crate::mnemonics::operation_named;
 use crate::operands::word_at;
 use crate::operation::Operation;
 use crate::statement::Statement;
 use crate::stop::Stop;
-use cs_base::NoMemory;
+use cs_base::{NoMemory, Octets};
 use std::alloc::Global;
 
 /// The statement of an operation and its operands.
@@ -118,7 +118,7 @@ pub fn parse_line(alloc: Global, bytes: &[u8]) -> Result<Line, NoMemory>
 {
     match labelled(bytes) {
         Some((label, rest)) => Ok(Line {
-            label: Some(octets(alloc, label)?),
+            label: Some(Octets::from_slice(alloc, label)?),
             content: content(alloc, rest)?,
         }),
         None => Ok(Line {

@@ -1,4 +1,3 @@
-pub mod FirstLines
 pub mod Noting
 pub mod Outcomes
 pub mod Placing

@@ -5,7 +5,7 @@ use Rattle.asm_syntax.specs.Lines.{line_of}
 use Rattle.asm_syntax.specs.declared.line.Line.{Line}
 use Rattle.rv32_asm.specs.LaidOut.{IsLaidOut}
 use Rattle.rv32_asm.specs.Layout.{start}
-use Rattle.rv32_asm.specs.Sources.{lines_of}
+use Rattle.cs_base.specs.Lines.{lines_of}
 use Rattle.rv32_asm.specs.declared.layout.Layout.{Layout}
 
 abbrev pub parsed : List ℕ → List Line

@@ -7,7 +7,7 @@ use Rattle.asm_syntax.specs.declared.statement.Statement.{Statement}
 use Rattle.rv32_asm.specs.Faults.{fault}
 use Rattle.rv32_asm.specs.Layout.{placed, place_of}
 use Rattle.rv32_asm.specs.Meaning.{bytes_of}
-use Rattle.rv32_asm.specs.Sources.{lines_of}
+use Rattle.cs_base.specs.Lines.{lines_of}
 use Rattle.rv32_asm.specs.declared.placed.Placed.{Placed}
 use Rattle.rv32_asm.specs.declared.reason.AsmBad.{AsmBad}
 use Rattle.rv32_asm.specs.declared.reason.AsmBad.TheVariants.{At, NoMemory}

@@ -9,7 +9,7 @@ use Rattle.rv32_isa.specs.Table.{decoded}
 use Rattle.rv32_isa.specs.declared.instr.Instr.{Instr}
 use Rattle.rv32_asm.specs.Layout.{start, placed, place_of}
 use Rattle.rv32_asm.specs.Meaning.{instructions}
-use Rattle.rv32_asm.specs.Sources.{lines_of}
+use Rattle.cs_base.specs.Lines.{lines_of}
 use Rattle.rv32_asm.specs.declared.placed.Placed.{Placed}
 
 -- the word at an address, of bytes the first of which stands at the start

@@ -6,5 +6,4 @@ pub mod LaidOut
 pub mod Layout
 pub mod Meaning
 pub mod Reasons
-pub mod Sources
 pub mod WordsSeen

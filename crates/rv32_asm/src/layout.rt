@@ -2,13 +2,12 @@ ghost use Rattle.std.specs.Prelude.{◌≡◌, ◌+◌, ◌*◌, ◌^◌, ◌≤
 ghost use Rattle.asm_syntax.specs.Lines.{line_of};
 ghost use Rattle.rv32_asm.specs.Layout.{size_of};
 ghost use Rattle.rv32_asm.specs.LaidOut.{IsLaidOut};
-ghost use Rattle.rv32_asm.specs.Sources.{lines_of};
+ghost use Rattle.cs_base.specs.Lines.{lines_of};
 
 use crate::labels::Labels;
 use crate::placed::Placed;
-use crate::source::first_line;
 use asm_syntax::{Line, LineBad, Statement, parse_line};
-use cs_base::{Items, NoMemory};
+use cs_base::{Items, NoMemory, first_line};
 use std::alloc::Global;
 
 /// The address of the first byte.

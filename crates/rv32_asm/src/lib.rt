@@ -12,7 +12,6 @@ mod layout;
 mod placed;
 mod reason;
 mod reason_text;
-mod source;
 mod words;
 
 pub use assembler::assemble;

@@ -10,7 +10,7 @@ use Rattle.cs_base.specs.declared.port_kind.PortKind.{PortKind}
 use Rattle.cs_base.specs.declared.port_kind.PortKind.TheVariants.{Eth, PcieDev, PcieHost, MemDev, MemHost}
 use Rattle.cs_base.specs.declared.port_kind.Via.{Via}
 use Rattle.cs_base.specs.declared.port_kind.Via.TheVariants.{Queue, Proxy}
-use Rattle.cs_base.specs.Plan.{End, same_end, first_end, second_end, uses_in, uses_of, kind_at, partner, IsWithinLimits, Joins}
+use Rattle.cs_base.specs.Plan.{End, same_end, first_end, second_end, uses_in, uses_of, kind_at, partner, joins as are_partners, IsWithinLimits, Joins}
 use Rattle.topology_file.specs.declared.form.Form.TheVariants as form
 use Rattle.topology_file.specs.declared.reason.Entry.TheVariants as entry
 use Rattle.topology_file.specs.declared.reason.TopoReason.TheVariants.{KindsDoNotJoin}
@@ -18,7 +18,7 @@ use Rattle.toml.specs.Data.{string}
 use Rattle.topology_file.specs.Keys.{link_keys}
 use Rattle.topology_file.specs.Fields.{via_named}
 use Rattle.topology_file.specs.Faults.{unless, value_fault, own_fault}
-use Rattle.topology_file.specs.Links.{component_named, link_of, names_fault, twice_fault, are_partners, ports_join_fault, interval_fault, join_fault, link_fault}
+use Rattle.topology_file.specs.Links.{component_named, link_of, names_fault, twice_fault, ports_join_fault, interval_fault, join_fault, link_fault}
 use Rattle.topology_file.specs.Refusals.{at_entry, links_refusal}
 use Rattle.topology_file.specs.Full.{via_text, full_link}
 use Rattle.topology_file.proofs.FreePorts.{within_ports, end_at}

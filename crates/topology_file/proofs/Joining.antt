@@ -11,12 +11,12 @@ use Rattle.toml.specs.Data.{Data}
 use Rattle.cs_base.specs.declared.link.Link.{Link}
 use Rattle.cs_base.specs.declared.port_kind.PortKind.{PortKind}
 use Rattle.cs_base.specs.declared.port_kind.PortKind.TheVariants.{Eth, PcieDev, PcieHost, MemDev, MemHost}
-use Rattle.cs_base.specs.Plan.{End, same_end, first_end, second_end, uses_in, uses_of, kind_at, partner, Joins}
+use Rattle.cs_base.specs.Plan.{End, same_end, first_end, second_end, uses_in, uses_of, kind_at, partner, joins as are_partners, Joins}
 use Rattle.topology_file.specs.declared.reason.Entry.TheVariants as entry
 use Rattle.topology_file.specs.declared.reason.TopoReason.TheVariants.{WrongType, KindsDoNotJoin, PortTwice, IntervalPastLatency}
 use Rattle.topology_file.specs.Keys.{link_keys}
 use Rattle.topology_file.specs.Faults.{own_fault, is_table}
-use Rattle.topology_file.specs.Links.{link_of, link_fault, names_fault, join_fault, twice_fault, ports_join_fault, interval_fault, are_partners, is_free}
+use Rattle.topology_file.specs.Links.{link_of, link_fault, names_fault, join_fault, twice_fault, ports_join_fault, interval_fault, is_free}
 use Rattle.topology_file.specs.Refusals.{at_entry, links_refusal}
 use Rattle.topology_file.specs.Valid.{IsValidLink}
 use Rattle.topology_file.proofs.Sound.{or_none, unless_none}

@@ -17,4 +17,4 @@ pub mod Putting
 pub mod Shallow
 pub mod Sound
 pub mod Validity
-pub mod SpelledAlike
+pub mod OneTopology

@@ -7,18 +7,19 @@ use Rattle.std.proofs.lemmas.Bool.Decides.{nat_tests}
 use Rattle.std.proofs.lemmas.List.Elements.{recursion_from_All}
 use Rattle.cs_base.specs.Names.{IsAddress}
 use Rattle.cs_base.specs.Texts.{mac_text}
-use Rattle.topology_file.specs.Macs.{digit_value, pair_at, has_colons, six_pairs, mac_of}
+use Rattle.cs_base.specs.Texts.{hexadecimal_value}
+use Rattle.topology_file.specs.Macs.{pair_at, has_colons, six_pairs, mac_of}
 
-decimal_digit : (v : ℕ) → v < 10 → digit_value (48 + v) ≡ Some v
+decimal_digit : (v : ℕ) → v < 10 → hexadecimal_value (48 + v) ≡ Some v
 decimal_digit v small = grind (arith, nat_tests)
 
-letter : (v : ℕ) → 10 ≤ v → v < 16 → digit_value (87 + v) ≡ Some v
+letter : (v : ℕ) → 10 ≤ v → v < 16 → hexadecimal_value (87 + v) ≡ Some v
 letter v large small = grind (arith, nat_tests)
 
-digit : (v : ℕ) → v < 16 → digit_value (digit_glyph false v) ≡ Some v
+digit : (v : ℕ) → v < 16 → hexadecimal_value (digit_glyph false v) ≡ Some v
 digit v small = grind (arith, nat_tests, decimal_digit, letter)
 
-both_digits : (byte : ℕ) → byte < 256 → option_and_then (λ high. option_map (λ low. high * 16 + low) (digit_value (digit_glyph false (byte % 16)))) (digit_value (digit_glyph false (byte / 16))) ≡ Some byte
+both_digits : (byte : ℕ) → byte < 256 → option_and_then (λ high. option_map (λ low. high * 16 + low) (hexadecimal_value (digit_glyph false (byte % 16)))) (hexadecimal_value (digit_glyph false (byte / 16))) ≡ Some byte
 both_digits byte small =
     let parts : (byte / 16) * 16 + byte % 16 ≡ byte = omega arith in
     rw (digit (byte / 16) (omega arith), digit (byte % 16) (omega arith)) (ap Some parts)

@@ -1,12 +1,11 @@
 -- What can be wrong with a link, after other links: what its entry says by itself comes first, then its ends.
-use Rattle.std.specs.Prelude.{ℕ, Bool, true, false, not, ◌&&◌, ◌==◌, nat_le, List, Option, Some, is_some, position, unwrap_or, if◌then◌else◌}
+use Rattle.std.specs.Prelude.{ℕ, Bool, not, ◌&&◌, ◌==◌, nat_le, List, Option, Some, is_some, position, unwrap_or, if◌then◌else◌}
 use Rattle.std.specs.Option.{option_or}
 use Rattle.std.specs.Str.{bytes_eq}
 use Rattle.toml.specs.Data.{Data}
 use Rattle.cs_base.specs.declared.link.Link.{Link}
 use Rattle.cs_base.specs.declared.port_kind.PortKind.{PortKind}
-use Rattle.cs_base.specs.declared.port_kind.PortKind.TheVariants.{Eth, PcieDev, PcieHost, MemDev, MemHost}
-use Rattle.cs_base.specs.Plan.{End, same_end, first_end, second_end, uses_of, kind_at}
+use Rattle.cs_base.specs.Plan.{End, same_end, first_end, second_end, uses_of, kind_at, joins}
 use Rattle.topology_file.specs.declared.key.Key.TheVariants as key
 use Rattle.topology_file.specs.declared.reason.TopoReason.{TopoReason}
 use Rattle.topology_file.specs.declared.reason.TopoReason.TheVariants.{WrongType, NoSuchComponent, PortTwice, PortMissing, KindsDoNotJoin, IntervalPastLatency}
@@ -45,17 +44,9 @@ abbrev pub twice_fault : List Link → Link → Option TopoReason
 twice_fault links link =
     unless (is_free links (first_end link) && is_free links (second_end link) && not (same_end (first_end link) (second_end link))) PortTwice
 
-abbrev pub are_partners : PortKind → PortKind → Bool
-are_partners Eth Eth = true
-are_partners PcieDev PcieHost = true
-are_partners PcieHost PcieDev = true
-are_partners MemDev MemHost = true
-are_partners MemHost MemDev = true
-are_partners _ _ = false
-
 -- a port is missing, or the kinds of the ports are no partners
 abbrev pub ports_join_fault : Option PortKind → Option PortKind → Option TopoReason
-ports_join_fault (Some a) (Some b) = unless (are_partners a b) KindsDoNotJoin
+ports_join_fault (Some a) (Some b) = unless (joins a b) KindsDoNotJoin
 ports_join_fault _ _ = Some PortMissing
 
 abbrev pub interval_fault : Link → Option TopoReason

@@ -1,23 +1,16 @@
 -- How an Ethernet address is read: six pairs of hexadecimal digits, of either case, with colons between them.
-use Rattle.std.specs.Prelude.{ℕ, ◌+◌, ◌-◌, ◌*◌, Bool, false, ◌&&◌, ◌==◌, nat_le, List, [], ◌∷◌, length, slice_index, Option, Some, None, option_map, option_and_then, if◌then◌else◌}
+use Rattle.std.specs.Prelude.{ℕ, ◌+◌, ◌*◌, Bool, false, ◌&&◌, ◌==◌, List, [], ◌∷◌, length, slice_index, Option, Some, None, option_map, option_and_then, if◌then◌else◌}
 use Rattle.cs_base.specs.Names.{is_individual}
+use Rattle.cs_base.specs.Texts.{hexadecimal_value}
 
 infixl 10 ◌>>=◌
 abbrev ◌>>=◌ : {A B : Type 0} → Option A → (A → Option B) → Option B
 o >>= f = option_and_then f o
 
--- the value of a digit: `0` to `9`, `a` to `f`, `A` to `F`
-abbrev pub digit_value : ℕ → Option ℕ
-digit_value byte =
-    if nat_le 48 byte && nat_le byte 57 then Some (byte - 48)
-    else if nat_le 97 byte && nat_le byte 102 then Some (byte - 87)
-    else if nat_le 65 byte && nat_le byte 70 then Some (byte - 55)
-    else None
-
 -- the byte that the two digits from a place on stand for
 unfoldable pub pair_at : List ℕ → ℕ → Option ℕ
 pair_at text place =
-    digit_value (slice_index text place) >>= (λ high. option_map (λ low. high * 16 + low) (digit_value (slice_index text (place + 1))))
+    hexadecimal_value (slice_index text place) >>= (λ high. option_map (λ low. high * 16 + low) (hexadecimal_value (slice_index text (place + 1))))
 
 abbrev pub is_colon : List ℕ → ℕ → Bool
 is_colon text place = slice_index text place == 58

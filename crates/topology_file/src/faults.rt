@@ -18,14 +18,9 @@ use crate::reason::TopoReason;
 use crate::reason_text::lesser;
 use crate::table;
 use cs_base::Name;
+use cs_base::limits::{LONGEST_FILE_NAME, MOST_COMPONENTS, MOST_LINKS, MOST_PORTS};
 use toml::value::Array;
 use toml::{Table, Value};
-
-const MOST_COMPONENTS: usize = 64;
-
-const MOST_LINKS: usize = 1024;
-
-const MOST_PORTS: u64 = 32;
 
 pub(crate) fn unless(holds: bool, reason: TopoReason) -> Option<TopoReason>
     ensures { result ≡ unless holds reason }
@@ -48,7 +43,7 @@ fn is_four_within(number: i64, least: u64, most: u64) -> bool
 fn is_file_name(text: &str) -> bool
     ensures { result ≡ is_file_name text.now }
 {
-    1 <= text.len() && text.len() <= 255
+    1 <= text.len() && text.len() <= LONGEST_FILE_NAME
 }
 
 fn is_name(text: &str) -> bool
@@ -194,7 +189,7 @@ fn ports_fault(kind: Kind, entry: &Value) -> Option<TopoReason>
             let pcie = number_at(entry, Key::Pcie);
             let mem = number_at(entry, Key::Mem);
             unless(
-                pcie <= MOST_PORTS && mem <= MOST_PORTS - pcie,
+                pcie <= MOST_PORTS as u64 && mem <= MOST_PORTS as u64 - pcie,
                 TopoReason::Range,
             )
         }

@@ -12,6 +12,7 @@ mod form;
 mod free_ports;
 mod joined;
 mod key;
+mod laws;
 mod link;
 mod links;
 mod mac;
@@ -30,6 +31,7 @@ mod written;
 
 pub use component::Component;
 pub use config::Config;
+pub use laws::one_topology;
 pub use printer::print;
 pub use reader::read;
 pub use reason::{Entry, TopoBad, TopoReason};

@@ -2,10 +2,9 @@
 ghost use Rattle.std.specs.Prelude.{◌≡◌, ◌≤◌, ◌<◌, length, position, None, Some, MatchResult, IfOk, IfSome};
 ghost use Rattle.std.specs.Str.{bytes_eq};
 ghost use Rattle.toml.specs.View.{view};
-ghost use Rattle.cs_base.specs.Plan.{kind_at};
 ghost use Rattle.topology_file.specs.Ports.{names_of};
 ghost use Rattle.topology_file.specs.Seats.{HasSeats};
-ghost use Rattle.topology_file.specs.Links.{component_named, link_of, link_fault, join_fault, twice_fault, are_partners, ports_join_fault, interval_fault};
+ghost use Rattle.topology_file.specs.Links.{component_named, link_of, link_fault, join_fault, twice_fault, ports_join_fault, interval_fault};
 
 use crate::build::link_between;
 use crate::component::Component;
@@ -15,7 +14,7 @@ use crate::joined::Joined;
 use crate::key::Key;
 use crate::reason::TopoReason;
 use crate::table;
-use cs_base::{Items, Link, PortKind};
+use cs_base::{Items, Link, PortKind, kind_at};
 use toml::Value;
 
 /// The place of the component of a name.
@@ -39,32 +38,11 @@ fn component_named(components: &[Component], name: &str) -> Option<u32>
     }
 }
 
-/// The kind of a port; None where there is no such port.
-fn kind_at(kinds: &[Items<PortKind>], component: u32, port: u32) -> Option<PortKind>
-    ensures { result ≡ kind_at kinds.now (record { component = component; port = port }) }
-{
-    let ports = kinds.get(component as usize)?;
-    ports.as_slice().get(port as usize).copied()
-}
-
-fn are_partners(a: PortKind, b: PortKind) -> bool
-    ensures { result ≡ are_partners a b }
-{
-    match (a, b) {
-        (PortKind::Eth, PortKind::Eth)
-        | (PortKind::PcieDev, PortKind::PcieHost)
-        | (PortKind::PcieHost, PortKind::PcieDev)
-        | (PortKind::MemDev, PortKind::MemHost)
-        | (PortKind::MemHost, PortKind::MemDev) => true,
-        _ => false,
-    }
-}
-
 fn ports_join_fault(a: Option<PortKind>, b: Option<PortKind>) -> Option<TopoReason>
     ensures { result ≡ ports_join_fault a b }
 {
     match (a, b) {
-        (Some(a), Some(b)) => unless(are_partners(a, b), TopoReason::KindsDoNotJoin),
+        (Some(a), Some(b)) => unless(a.joins(b), TopoReason::KindsDoNotJoin),
         _ => Some(TopoReason::PortMissing),
     }
 }

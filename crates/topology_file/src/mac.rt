@@ -1,30 +1,18 @@
 //! Ethernet addresses as texts.
-ghost use Rattle.std.specs.Prelude.{◌≡◌, ◌<◌, ◌≤◌, ◌+◌, length, IfSome};
-ghost use Rattle.topology_file.specs.Macs.{digit_value, pair_at, has_colons, six_pairs, mac_of, is_station};
+ghost use Rattle.std.specs.Prelude.{◌≡◌, ◌<◌, ◌+◌, length};
+ghost use Rattle.topology_file.specs.Macs.{pair_at, has_colons, six_pairs, mac_of, is_station};
 
-use cs_base::Mac;
+use cs_base::{Mac, hexadecimal_value};
 
 const LENGTH: usize = 17;
-
-fn digit_value(byte: u8) -> Option<u8>
-    ensures value { result ≡ digit_value byte }
-    ensures digit { IfSome result (λ value. value < 16) }
-{
-    match byte {
-        b'0'..=b'9' => Some(byte - b'0'),
-        b'a'..=b'f' => Some(byte - b'a' + 10),
-        b'A'..=b'F' => Some(byte - b'A' + 10),
-        _ => None,
-    }
-}
 
 #[tactic(auto, unfolding(crate::specs::Macs::pair_at))]
 fn pair_at(text: &[u8], place: usize) -> Option<u8>
     requires { place + 1 < length text.now }
     ensures { result ≡ pair_at text.now place }
 {
-    let high = digit_value(text[place])?;
-    let low = digit_value(text[place + 1])?;
+    let high = hexadecimal_value(text[place])?;
+    let low = hexadecimal_value(text[place + 1])?;
     Some(high * 16 + low)
 }
 

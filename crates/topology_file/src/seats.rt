@@ -4,12 +4,12 @@ ghost use Rattle.topology_file.specs.Seats.{seat_of, HasSeats};
 ghost use Rattle.topology_file.specs.Links.{is_free};
 
 use crate::joined::Joined;
+use cs_base::limits::{MOST_COMPONENTS, MOST_PORTS};
 use cs_base::{Items, Link, NoMemory};
 use std::alloc::Global;
 
-const PLACES: usize = 32;
-
-const SEATS: usize = 2048;
+/// One seat for each port that there can be.
+const SEATS: usize = MOST_COMPONENTS * MOST_PORTS;
 
 fn seat_of(component: u32, port: u32) -> usize
     requires component { component < 64 }
@@ -17,7 +17,7 @@ fn seat_of(component: u32, port: u32) -> usize
     ensures seat { result ≡ seat_of component port }
     ensures within { result < SEATS }
 {
-    component as usize * PLACES + port as usize
+    component as usize * MOST_PORTS + port as usize
 }
 
 impl Joined {

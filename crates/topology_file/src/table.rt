@@ -4,6 +4,10 @@ ghost use Rattle.topology_file.specs.Keys.{row, top_keys, component_keys, link_k
 
 use crate::form::{Absent, Form, Kind};
 use crate::key::Key;
+use cs_base::limits::{
+    LATEST_END, LEAST_RAM, LONGEST_CYCLE, LONGEST_FRAME, LONGEST_LATENCY, MOST_FRAMES, MOST_MEMORY,
+    MOST_PORTS, MOST_RAM, MOST_SLOTS, SHORTEST_FRAME,
+};
 
 const fn whole(least: u64, most: u64) -> Form
     ensures { result ≡ Form.Whole least most }
@@ -55,29 +59,29 @@ pub(crate) fn form(key: Key) -> Form
 {
     match key {
         Key::Version => whole(1, 1),
-        Key::End | Key::Period | Key::Age => whole(1, 1_000_000_000_000_000),
+        Key::End | Key::Period | Key::Age => whole(1, LATEST_END),
         Key::Components => Form::SomeEntries,
         Key::Links => Form::Entries,
         Key::Name => Form::Name,
         Key::Kind => Form::Kind,
-        Key::First => whole(0, 1_000_000_000_000_000),
-        Key::Count => whole(0, 1_000_000_000),
-        Key::Length => whole(14, 1514),
+        Key::First => whole(0, LATEST_END),
+        Key::Count => whole(0, MOST_FRAMES),
+        Key::Length => whole(SHORTEST_FRAME as u64, LONGEST_FRAME as u64),
         Key::To => Form::Mac,
         Key::From | Key::Mac => Form::Individual,
-        Key::Ports | Key::Pcie | Key::Mem => whole(0, 32),
-        Key::Size => whole(1, 16_777_216),
+        Key::Ports | Key::Pcie | Key::Mem => whole(0, MOST_PORTS as u64),
+        Key::Size => whole(1, MOST_MEMORY),
         Key::Ram => Form::Fours {
-            least: 65_536,
-            most: 16_777_216,
+            least: LEAST_RAM,
+            most: MOST_RAM,
         },
-        Key::Cycle => whole(1, 1_000_000_000),
-        Key::Hart => whole(0, 4_294_967_295),
+        Key::Cycle => whole(1, LONGEST_CYCLE),
+        Key::Hart => whole(0, u32::MAX as u64),
         Key::Image => Form::FileName,
         Key::A | Key::B => Form::Text,
-        Key::APort | Key::BPort => whole(0, 31),
-        Key::Latency | Key::Interval => whole(1, 1_000_000_000_000),
-        Key::Slots => whole(1, 1024),
+        Key::APort | Key::BPort => whole(0, MOST_PORTS as u64 - 1),
+        Key::Latency | Key::Interval => whole(1, LONGEST_LATENCY),
+        Key::Slots => whole(1, MOST_SLOTS as u64),
         Key::Via => Form::Via,
     }
 }
