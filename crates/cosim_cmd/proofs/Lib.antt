@@ -2,6 +2,6 @@ pub mod Cuts
 pub mod WordKinds
 pub mod ClapWords
 pub mod LogTimes
-pub mod Serving
-pub mod ServedAlike
-pub mod Said
+pub mod Reading
+pub mod TooLong
+pub mod Accepting

@@ -1,7 +1,3 @@
-pub mod AnyDevice
-pub mod AnyDeviceLaws
-pub mod Served
-pub mod StartBads
 pub mod Sentence
 pub mod Said
 pub mod Lines
@@ -11,5 +7,6 @@ pub mod Check
 pub mod Model
 pub mod Asm
 pub mod Refusals
+pub mod Inputs
 pub mod Outputs
 pub mod Local

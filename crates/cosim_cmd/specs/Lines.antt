@@ -37,6 +37,10 @@ topology_line reason entry = codes "cosim: topology " ++ reason_text reason ++ c
 abbrev pub not_built_line : ℕ → List ℕ
 not_built_line i = codes "cosim: not built " ++ entry_text (Component i) ++ 10 ∷ []
 
+-- about a host whose program is too long
+abbrev pub image_line : List ℕ → List ℕ
+image_line name = codes "cosim: image " ++ name ++ 10 ∷ []
+
 -- about a line of an assembler's source
 abbrev pub asm_line : ℕ → AsmReason → List ℕ
 asm_line number reason = codes "cosim: asm " ++ decimal number ++ codes " " ++ asm_reason_text reason ++ 10 ∷ []

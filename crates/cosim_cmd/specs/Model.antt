@@ -1,34 +1,97 @@
 -- What `model` writes: the joined log of the global run of the topology that the file spells.
-use Rattle.std.specs.Prelude.{ℕ, ◌≡◌, List, None, Some}
-use Rattle.cosim_cmd.specs.declared.any_device.AnyDevice.{AnyDevice}
-use Rattle.cosim_cmd.specs.AnyDevice.{any_device}
+use Rattle.std.specs.Prelude.{ℕ, ◌≡◌, ◌⊎◌, List, slice_get, None, Some, ⊤}
+use Rattle.cs_base.specs.Outside.{FilesSeen}
 use Rattle.device_api.specs.World.{Network, global_until, logs_of}
 use Rattle.device_api.specs.Joined.{joined_until}
+use Rattle.topology_file.specs.declared.component.Component.{Component}
 use Rattle.topology_file.specs.declared.topology.Topology.{Topology}
 use Rattle.topology_file.specs.Ports.{names_of}
 use Rattle.topology_file.specs.Reading.{IsTopologyText}
-use Rattle.cosim_cmd.specs.Served.{unserved_from, starts_of}
-use Rattle.cosim_cmd.specs.Lines.{not_built_line}
+use Rattle.device_set.specs.declared.any_device.AnyDevice.{AnyDevice}
+use Rattle.device_set.specs.AnyKind.{any_device}
+use Rattle.device_set.specs.Starts.{unserved, starts_of, too_long}
+use Rattle.cosim_cmd.specs.Inputs.{AreImages, AsksNothing, AsksBeginning, AreRead, IsOneUnread}
+use Rattle.cosim_cmd.specs.Lines.{not_built_line, image_line}
+use Rattle.cosim_cmd.specs.NoTopology.{IsNoTopology}
+use Rattle.cosim_cmd.specs.declared.refusal.ModelBad.{ModelBad}
+use Rattle.cosim_cmd.specs.declared.refusal.ModelBad.TheVariants as bad
 
--- the components at their start, and the links between them
-abbrev pub network_of : Topology → Network AnyDevice
-network_of t = record { behaviour = any_device; starts = starts_of t.components; links = t.wiring.links }
+-- devices and the links between them
+abbrev pub network_of : Topology → List AnyDevice → Network AnyDevice
+network_of t devices = record { behaviour = any_device; starts = devices; links = t.wiring.links }
 
--- the joined log of the global run, as text
-abbrev pub joined_log : Topology → List ℕ
-joined_log t = joined_until t.wiring.end (names_of t.components) (logs_of (global_until (network_of t) t.wiring.end))
+-- the joined log of the global run of these devices, as text
+abbrev pub joined_log : Topology → List AnyDevice → List ℕ
+joined_log t devices = joined_until t.wiring.end (names_of t.components) (logs_of (global_until (network_of t devices) t.wiring.end))
 
--- a topology text whose components can all be served, and the joined log of its topology
-pub record IsModelled (bytes text : List ℕ) : Type 0 where
+-- the programs fit their hosts, and the text is the joined log of the topology's devices from their start
+pub record IsLogged (t : Topology) (images : List (List ℕ)) (text : List ℕ) : Type 0 where
+  pub fit : too_long t images ≡ None
+  pub joined : text ≡ joined_log t (starts_of t.components images)
+
+-- the line is about the host with this number
+pub record IsHostLine (t : Topology) (number : ℕ) (line : List ℕ) : Type 0 where
+  pub host : Component
+  pub host_is : slice_get t.components number ≡ Some host
+  pub named : line ≡ image_line host.name
+
+-- a program is too long, and the line names the first host of which it is
+pub record IsTooLong (t : Topology) (images : List (List ℕ)) (line : List ℕ) : Type 0 where
+  pub number : ℕ
+  pub too_long_is : too_long t images ≡ Some number
+  pub named : IsHostLine t number line
+
+-- a topology text whose components can all be served, and of its topology a fact holds
+pub record OfServed (bytes : List ℕ) (P : Topology → Type 0) : Type 0 where
   pub topology : Topology
   pub spelled : IsTopologyText bytes topology
-  pub served : unserved_from 0 topology.components ≡ None
-  pub joined : text ≡ joined_log topology
+  pub served : unserved topology ≡ None
+  pub fact : P topology
+
+-- the text is the joined log of a topology text with these programs
+abbrev pub IsModelled : List ℕ → List (List ℕ) → List ℕ → Type 0
+IsModelled bytes images text = OfServed bytes (λ t. IsLogged t images text)
+
+abbrev pub LacksRoom : List ℕ → List (List ℕ) → List ℕ → Type 0
+LacksRoom bytes images line = OfServed bytes (λ t. IsTooLong t images line)
 
 -- a topology text with a component that can't be served yet, and the line that names the first one
 pub record IsNotBuilt (bytes line : List ℕ) : Type 0 where
   pub topology : Topology
   pub spelled : IsTopologyText bytes topology
   pub component : ℕ
-  pub unserved : unserved_from 0 topology.components ≡ Some component
+  pub unserved_is : unserved topology ≡ Some component
   pub named : line ≡ not_built_line component
+
+-- ---- with the programs of hosts, which are read after the topology
+
+-- the programs were read, and of them a fact holds
+pub record OfImages (bytes : List ℕ) (before after : FilesSeen) (P : List (List ℕ) → Type 0) : Type 0 where
+  pub names : List (List ℕ)
+  pub are_images : AreImages bytes names
+  pub images : List (List ℕ)
+  pub read : AreRead names before after images
+  pub fact : P images
+
+-- a program can't be read
+pub record IsImageUnread (bytes : List ℕ) (before after : FilesSeen) (line : List ℕ) : Type 0 where
+  pub names : List (List ℕ)
+  pub are_images : AreImages bytes names
+  pub unread : IsOneUnread names before after line
+
+-- why the system of a text can't be run
+abbrev pub IsModelBad : List ℕ → FilesSeen → FilesSeen → ModelBad → Type 0
+IsModelBad bytes before after bad.NoMemory = ⊤
+IsModelBad bytes before after (bad.Topology line) = IsNoTopology bytes line × AsksNothing before after
+IsModelBad bytes before after (bad.NotBuilt line) = IsNotBuilt bytes line × AsksNothing before after
+IsModelBad bytes before after (bad.File line) = IsImageUnread bytes before after line
+IsModelBad bytes before after (bad.Image line) = OfImages bytes before after (λ images. LacksRoom bytes images line)
+
+-- the first ones of the programs were asked for, in order
+pub record AsksForSome (bytes : List ℕ) (before after : FilesSeen) : Type 0 where
+  pub names : List (List ℕ)
+  pub are_images : AreImages bytes names
+  pub asked : AsksBeginning names before after
+
+abbrev pub AsksForImages : List ℕ → FilesSeen → FilesSeen → Type 0
+AsksForImages bytes before after = AsksNothing before after ⊎ AsksForSome bytes before after

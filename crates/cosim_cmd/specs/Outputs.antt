@@ -1,20 +1,24 @@
--- What each command makes of the bytes of its file, and for what it refuses them.
+-- What each command makes of the bytes of its files, and for what it refuses them.
 use Rattle.std.specs.Prelude.{ℕ, ◌≡◌, List, None}
 use Rattle.topology_file.specs.declared.topology.Topology.{Topology}
 use Rattle.topology_file.specs.Reading.{IsTopologyText}
 use Rattle.cosim_cmd.specs.Sentence.{Sentence, Check, Model, Asm}
+use Rattle.cosim_cmd.specs.Inputs.{Inputs}
 use Rattle.cosim_cmd.specs.NoTopology.{IsNoTopology}
-use Rattle.cosim_cmd.specs.Served.{unserved_from}
+use Rattle.device_set.specs.Starts.{too_long}
 use Rattle.cosim_cmd.specs.Check.{IsChecked}
-use Rattle.cosim_cmd.specs.Model.{IsModelled, IsNotBuilt}
+use Rattle.cosim_cmd.specs.Model.{OfServed, IsModelled, LacksRoom, IsNotBuilt}
 use Rattle.cosim_cmd.specs.Asm.{IsAssembled, IsNoProgram}
-use Rattle.cosim_cmd.specs.Refusals.{Never}
 
 -- the output
-abbrev pub IsOutput : Sentence → List ℕ → List ℕ → Type 0
-IsOutput (Check file) bytes text = IsChecked bytes text
-IsOutput (Model file) bytes text = IsModelled bytes text
-IsOutput (Asm file) bytes text = IsAssembled bytes text
+abbrev pub IsOutput : Sentence → Inputs → List ℕ → Type 0
+IsOutput (Check file) inputs text = IsChecked inputs.text text
+IsOutput (Model file) inputs text = IsModelled inputs.text inputs.more text
+IsOutput (Asm file) inputs text = IsAssembled inputs.text text
+
+-- nothing is refused for this
+abbrev pub Never : List ℕ → Type 0
+Never line = ⊥
 
 -- the bytes are no topology, where the command reads one
 abbrev pub LacksTopology : Sentence → List ℕ → List ℕ → Type 0
@@ -24,24 +28,22 @@ LacksTopology (Asm file) bytes line = Never line
 
 -- a component can't be served yet, where the command runs it
 abbrev pub LacksDevice : Sentence → List ℕ → List ℕ → Type 0
-LacksDevice (Check file) bytes line = Never line
 LacksDevice (Model file) bytes line = IsNotBuilt bytes line
-LacksDevice (Asm file) bytes line = Never line
+LacksDevice _ bytes line = Never line
 
 -- the bytes are no program, where the command reads one
 abbrev pub LacksProgram : Sentence → List ℕ → List ℕ → Type 0
-LacksProgram (Check file) bytes line = Never line
-LacksProgram (Model file) bytes line = Never line
 LacksProgram (Asm file) bytes line = IsNoProgram bytes line
+LacksProgram _ bytes line = Never line
 
--- the bytes are a topology text, each component of which can be served
-pub record IsServable (bytes : List ℕ) : Type 0 where
-  pub topology : Topology
-  pub spelled : IsTopologyText bytes topology
-  pub served : unserved_from 0 topology.components ≡ None
+-- a program is too long for its host, where the command runs it
+abbrev pub LacksHostRoom : Sentence → Inputs → List ℕ → Type 0
+LacksHostRoom (Model file) inputs line = LacksRoom inputs.text inputs.more line
+LacksHostRoom _ inputs line = Never line
 
--- the bytes are what the command can take
-abbrev pub Accepts : Sentence → List ℕ → Type 0
-Accepts (Check file) bytes = (t : Topology) × IsTopologyText bytes t
-Accepts (Model file) bytes = IsServable bytes
-Accepts (Asm file) bytes = (program : List ℕ) × IsAssembled bytes program
+-- what the command can take: a topology text, a topology text each component of which can be served and whose
+-- programs fit their hosts, or a source that is assembled
+abbrev pub Accepts : Sentence → Inputs → Type 0
+Accepts (Check file) inputs = (t : Topology) × IsTopologyText inputs.text t
+Accepts (Model file) inputs = OfServed inputs.text (λ t. too_long t inputs.more ≡ None)
+Accepts (Asm file) inputs = (program : List ℕ) × IsAssembled inputs.text program

@@ -1,40 +1,67 @@
--- Why a command is refused.
+-- The exit status and the line of each refusal.
 use Rattle.std.specs.Prelude.{ℕ, List, ⊤}
+use Rattle.cosim_cmd.specs.declared.refusal.Fault.{Fault}
+use Rattle.cosim_cmd.specs.declared.refusal.Fault.TheVariants as fault
+use Rattle.cosim_cmd.specs.declared.refusal.OutputBad.{OutputBad}
+use Rattle.cosim_cmd.specs.declared.refusal.OutputBad.TheVariants as bad
+use Rattle.cosim_cmd.specs.declared.refusal.ModelBad.{ModelBad}
+use Rattle.cosim_cmd.specs.declared.refusal.ModelBad.TheVariants as model
 use Rattle.cosim_cmd.specs.declared.refusal.Refusal.{Refusal}
 use Rattle.cosim_cmd.specs.declared.refusal.Refusal.TheVariants as refused
 use Rattle.cosim_cmd.specs.Lines.{memory_line, usage_line, out_line}
 
 -- the exit status
+abbrev pub output_status : OutputBad → ℕ
+output_status bad.NoMemory = 1
+output_status (bad.File line) = 3
+output_status (bad.Topology line) = 4
+output_status (bad.Image line) = 5
+output_status (bad.Asm line) = 11
+output_status (bad.NotBuilt line) = 20
+
 abbrev pub status_of : Refusal → ℕ
 status_of refused.NoMemory = 1
 status_of refused.Usage = 2
-status_of (refused.File line) = 3
-status_of (refused.Topology line) = 4
-status_of (refused.NotBuilt line) = 20
 status_of refused.Out = 9
-status_of (refused.Asm line) = 11
+status_of (refused.NoOutput bad) = output_status bad
 
 -- the line
+abbrev pub output_line : OutputBad → List ℕ
+output_line bad.NoMemory = memory_line
+output_line (bad.File line) = line
+output_line (bad.Topology line) = line
+output_line (bad.Image line) = line
+output_line (bad.Asm line) = line
+output_line (bad.NotBuilt line) = line
+
 abbrev pub line_of : Refusal → List ℕ
 line_of refused.NoMemory = memory_line
 line_of refused.Usage = usage_line
-line_of (refused.File line) = line
-line_of (refused.Topology line) = line
-line_of (refused.NotBuilt line) = line
 line_of refused.Out = out_line
-line_of (refused.Asm line) = line
+line_of (refused.NoOutput bad) = output_line bad
 
--- bytes are refused with a line for what they are no topology, for what can't be served yet, or for what they are no
--- program
-abbrev pub IsBytesRefusal : (NoTopology NotBuilt NoProgram : List ℕ → Type 0) → Refusal → Type 0
-IsBytesRefusal NoTopology NotBuilt NoProgram refused.NoMemory = ⊤
-IsBytesRefusal NoTopology NotBuilt NoProgram refused.Usage = ⊥
-IsBytesRefusal NoTopology NotBuilt NoProgram (refused.File line) = ⊥
-IsBytesRefusal NoTopology NotBuilt NoProgram (refused.Topology line) = NoTopology line
-IsBytesRefusal NoTopology NotBuilt NoProgram (refused.NotBuilt line) = NotBuilt line
-IsBytesRefusal NoTopology NotBuilt NoProgram refused.Out = ⊥
-IsBytesRefusal NoTopology NotBuilt NoProgram (refused.Asm line) = NoProgram line
+-- a fault whose line is as it must be
+abbrev pub IsFault : (List ℕ → Type 0) → Fault → Type 0
+IsFault Line (fault.Line line) = Line line
+IsFault Line fault.NoMemory = ⊤
 
--- nothing is refused for this
-abbrev pub Never : List ℕ → Type 0
-Never line = ⊥
+-- the refusal for a file that can't be read
+abbrev pub unread_of : Fault → OutputBad
+unread_of (fault.Line line) = bad.File line
+unread_of fault.NoMemory = bad.NoMemory
+
+abbrev pub of_image : Fault → ModelBad
+of_image (fault.Line line) = model.Image line
+of_image fault.NoMemory = model.NoMemory
+
+abbrev pub unread_image : Fault → ModelBad
+unread_image (fault.Line line) = model.File line
+unread_image fault.NoMemory = model.NoMemory
+
+-- why `model` has no output
+abbrev pub of_model : ModelBad → OutputBad
+of_model model.NoMemory = bad.NoMemory
+of_model (model.Topology line) = bad.Topology line
+of_model (model.NotBuilt line) = bad.NotBuilt line
+of_model (model.File line) = bad.File line
+of_model (model.Image line) = bad.Image line

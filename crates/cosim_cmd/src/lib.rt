@@ -1,15 +1,15 @@
 //! The commands of the program.
 #![tactic(auto)]
 
-mod any_device;
 mod asm;
 mod check;
+mod input;
 mod line;
 mod local;
 mod model;
+mod names;
 mod refusal;
 mod report;
-mod serve;
 mod topology_text;
 mod words;
 mod write;

@@ -1,32 +1,31 @@
 //! The command `model`: the joined log of the global simulator.
-ghost use Rattle.std.specs.Prelude.{◌≡◌, All, IfOk, IfErr, None, Some};
-ghost use Rattle.cosim_cmd.specs.AnyDevice.{IsSettledDevice};
-ghost use Rattle.cosim_cmd.specs.Served.{starts_of, unserved_from};
-ghost use Rattle.cosim_cmd.specs.Model.{joined_log, IsModelled, IsNotBuilt};
-ghost use Rattle.cosim_cmd.specs.NoTopology.{IsNoTopology};
-ghost use Rattle.cosim_cmd.specs.Refusals.{IsBytesRefusal, Never};
+ghost use Rattle.std.specs.Prelude.{◌≡◌, ◌<◌, All, map, length, IfOk, IfErr, None, Some};
+ghost use Rattle.device_set.specs.AnyKind.{any_device, IsSettledDevice};
+ghost use Rattle.device_set.specs.Starts.{unserved};
+ghost use Rattle.cosim_cmd.specs.Model.{joined_log, IsLogged, IsTooLong, IsHostLine, OfImages, IsModelled, IsModelBad, AsksForImages};
+ghost use Rattle.cosim_cmd.specs.Refusals.{IsFault, of_image, unread_image};
 
-use crate::any_device::AnyDevice;
-use crate::line::not_built_line;
-use crate::refusal::Refusal;
-use crate::serve::{StartBad, names_of, start_all};
+use crate::input::contents;
+use crate::line::{image_line, not_built_line};
+use crate::names::names_of;
+use crate::refusal::{Fault, ModelBad};
 use crate::topology_text::topology;
-use cs_base::{NoMemory, Octets};
+use cs_base::{Files, NoMemory, Octets};
+use device_set::{AnyDevice, StartBad, image_names, start, unserved};
 use global_model::simulate;
 use log_join::join;
 use std::alloc::Global;
 use topology_file::Topology;
 
-/// The joined log of a topology whose components have been started.
+/// The joined log of a topology's devices.
 fn joined_log(
     alloc: Global,
     topology: &Topology,
     devices: Vec<AnyDevice>,
 ) -> Result<Octets, NoMemory>
-    requires served { unserved_from 0 topology.now.components ≡ None }
-    requires starts { devices.items ≡ starts_of topology.now.components }
+    requires matches { map any_device.ports devices.items ≡ topology.now.wiring.kinds }
     requires at_start { All (λ device. IsSettledDevice device 0) devices.items }
-    ensures { IfOk result (λ text. text ≡ joined_log topology.now) }
+    ensures { IfOk result (λ text. text ≡ joined_log topology.now devices.items) }
 {
     let names = names_of(alloc, topology.components.as_slice())?;
     let logs = simulate(alloc, devices, &topology.wiring)?;
@@ -34,17 +33,71 @@ fn joined_log(
     Ok(text)
 }
 
-/// The output of `model` on a topology text.
-pub fn modelled(alloc: Global, bytes: &[u8]) -> Result<Octets, Refusal>
-    ensures modelled { IfOk result (IsModelled bytes.now) }
-    ensures refused { IfErr result (IsBytesRefusal (IsNoTopology bytes.now) (IsNotBuilt bytes.now) Never) }
+/// The line about a host whose program is too long.
+fn host_line(alloc: Global, topology: &Topology, number: u32) -> Result<Octets, NoMemory>
+    requires { number < length topology.now.components }
+    ensures { IfOk result (IsHostLine topology.now number) }
 {
-    let topology = topology(alloc, bytes)?;
-    match start_all(alloc, topology.components.as_slice()) {
-        Ok(devices) => Ok(joined_log(alloc, &topology, devices)?),
-        Err(StartBad::NotBuilt(component)) => Err(Refusal::NotBuilt(not_built_line(
-            alloc, component,
-        )?)),
-        Err(StartBad::NoMemory) => Err(Refusal::NoMemory),
+    let host = &topology.components.as_slice()[number as usize];
+    image_line(alloc, host.name.as_slice())
+}
+
+/// The joined log of a topology with these programs.
+fn logged(alloc: Global, topology: &Topology, images: Vec<Octets>) -> Result<Octets, Fault>
+    requires { unserved topology.now ≡ None }
+    ensures logged { IfOk result (IsLogged topology.now images.items) }
+    ensures refused { IfErr result (IsFault (IsTooLong topology.now images.items)) }
+{
+    match start(alloc, topology, images) {
+        Ok(devices) => Ok(joined_log(alloc, topology, devices)?),
+        Err(StartBad::ImageTooLong { component }) => {
+            Err(Fault::Line(host_line(alloc, topology, component)?))
+        }
+        Err(StartBad::NoMemory) => Err(Fault::NoMemory),
+    }
+}
+
+fn too_long(fault: Fault) -> ModelBad
+    ensures { result ≡ of_image fault }
+{
+    match fault {
+        Fault::Line(line) => ModelBad::Image(line),
+        Fault::NoMemory => ModelBad::NoMemory,
+    }
+}
+
+fn unread(fault: Fault) -> ModelBad
+    ensures { result ≡ unread_image fault }
+{
+    match fault {
+        Fault::Line(line) => ModelBad::File(line),
+        Fault::NoMemory => ModelBad::NoMemory,
+    }
+}
+
+/// The output of `model` on a topology text. The programs of hosts are read once it is known that each component
+/// can be served.
+pub fn modelled<F: Files>(alloc: Global, bytes: &[u8], files: &mut F) -> Result<Octets, ModelBad>
+    ensures modelled { IfOk result (λ text. OfImages bytes.now (F.seen files.old) (F.seen files.new)
+        (λ images. IsModelled bytes.now images text)) }
+    ensures refused { IfErr result (IsModelBad bytes.now (F.seen files.old) (F.seen files.new)) }
+    ensures asked { AsksForImages bytes.now (F.seen files.old) (F.seen files.new) }
+    ensures files_kept { (F.seen files.new).held ≡ (F.seen files.old).held }
+{
+    let topology = match topology(alloc, bytes) {
+        Ok(topology) => topology,
+        Err(Fault::Line(line)) => return Err(ModelBad::Topology(line)),
+        Err(Fault::NoMemory) => return Err(ModelBad::NoMemory),
+    };
+    if let Some(component) = unserved(&topology) {
+        return Err(ModelBad::NotBuilt(not_built_line(alloc, component)?));
+    }
+    let names = image_names(alloc, &topology)?;
+    match contents(alloc, names.as_slice(), files) {
+        Ok(images) => match logged(alloc, &topology, images) {
+            Ok(text) => Ok(text),
+            Err(fault) => Err(too_long(fault)),
+        },
+        Err(fault) => Err(unread(fault)),
     }
 }

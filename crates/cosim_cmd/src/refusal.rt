@@ -1,20 +1,89 @@
+//! Why a command is refused. Where a line says more than which refusal it is, the refusal has the line.
 use cs_base::{NoMemory, Octets};
 
-/// Why a command is refused. Where the line depends on more than the kind of the refusal, the refusal has it.
+/// Why a text can't be taken, or a file can't be read.
 #[derive(Debug, Drop)]
-pub enum Refusal {
+pub enum Fault {
+    /// For what this line says.
+    Line(Octets),
     /// Memory is wanting.
     NoMemory,
-    /// The words are no sentence.
-    Usage,
+}
+
+impl From<NoMemory> for Fault {
+    ghost use Rattle.std.specs.Prelude.{◌≡◌};
+    ghost use Rattle.cosim_cmd.specs.declared.refusal.Fault.TheVariants.{NoMemory};
+
+    ghost from_gives = { λ _ fault. fault ≡ NoMemory };
+
+    fn from(_error: NoMemory) -> Fault {
+        Fault::NoMemory
+    }
+}
+
+/// Why the system of a topology text can't be run.
+#[derive(Debug, Drop)]
+pub enum ModelBad {
+    /// The text is no topology.
+    Topology(Octets),
+    /// The topology has a component that can't be served yet.
+    NotBuilt(Octets),
+    /// The program of a host can't be read.
+    File(Octets),
+    /// The program of a host is longer than its RAM.
+    Image(Octets),
+    /// Memory is wanting.
+    NoMemory,
+}
+
+impl From<NoMemory> for ModelBad {
+    ghost use Rattle.std.specs.Prelude.{◌≡◌};
+    ghost use Rattle.cosim_cmd.specs.declared.refusal.ModelBad.TheVariants.{NoMemory};
+
+    ghost from_gives = { λ _ bad. bad ≡ NoMemory };
+
+    fn from(_error: NoMemory) -> ModelBad {
+        ModelBad::NoMemory
+    }
+}
+
+/// Why a command has no output.
+#[derive(Debug, Drop)]
+pub enum OutputBad {
+    /// Memory is wanting.
+    NoMemory,
     /// A file can't be read.
     File(Octets),
     /// The file is no topology.
     Topology(Octets),
-    /// The topology has a component that can't be served yet.
-    NotBuilt(Octets),
+    /// The program of a host is longer than its RAM.
+    Image(Octets),
     /// The source can't be assembled.
     Asm(Octets),
+    /// The topology has a component that can't be served yet.
+    NotBuilt(Octets),
+}
+
+impl From<NoMemory> for OutputBad {
+    ghost use Rattle.std.specs.Prelude.{◌≡◌};
+    ghost use Rattle.cosim_cmd.specs.declared.refusal.OutputBad.TheVariants.{NoMemory};
+
+    ghost from_gives = { λ _ bad. bad ≡ NoMemory };
+
+    fn from(_error: NoMemory) -> OutputBad {
+        OutputBad::NoMemory
+    }
+}
+
+/// Why a command is refused.
+#[derive(Debug, Drop)]
+pub enum Refusal {
+    /// Memory is wanting while the words are read.
+    NoMemory,
+    /// The words are no sentence.
+    Usage,
+    /// There is no output.
+    NoOutput(OutputBad),
     /// The output can't be written.
     Out,
 }
@@ -27,5 +96,16 @@ impl From<NoMemory> for Refusal {
 
     fn from(_error: NoMemory) -> Refusal {
         Refusal::NoMemory
+    }
+}
+
+impl From<OutputBad> for Refusal {
+    ghost use Rattle.std.specs.Prelude.{◌≡◌};
+    ghost use Rattle.cosim_cmd.specs.declared.refusal.Refusal.TheVariants.{NoOutput};
+
+    ghost from_gives = { λ bad refusal. refusal ≡ NoOutput bad };
+
+    fn from(bad: OutputBad) -> Refusal {
+        Refusal::NoOutput(bad)
     }
 }

@@ -3,14 +3,46 @@ ghost use Rattle.std.specs.Prelude.{◌≡◌};
 ghost use Rattle.cosim_cmd.specs.Refusals.{status_of, line_of};
 ghost use Rattle.cosim_cmd.specs.Written.{IsAttempted};
 
-use crate::refusal::Refusal;
+use crate::refusal::{OutputBad, Refusal};
 use crate::write::write_all;
 use cs_base::Sink;
 
 fn write_line<E: Sink>(err: &mut E, line: &[u8])
-    ensures { IsAttempted (E.written err.old) (E.written err.new) line.now (E.fault_count err.old) (E.fault_count err.new) }
+    ensures { IsAttempted (E.seen err.old) (E.seen err.new) line.now }
 {
     let _ = write_all(err, line);
+}
+
+impl OutputBad {
+    ghost use Rattle.cosim_cmd.specs.Refusals.{output_status, output_line};
+
+    /// The exit status.
+    fn status(&self) -> u8
+        ensures { result ≡ output_status self.now }
+    {
+        match self {
+            OutputBad::NoMemory => 1,
+            OutputBad::File(_) => 3,
+            OutputBad::Topology(_) => 4,
+            OutputBad::Image(_) => 5,
+            OutputBad::Asm(_) => 11,
+            OutputBad::NotBuilt(_) => 20,
+        }
+    }
+
+    /// The line, with its line feed.
+    fn line(&self) -> &[u8]
+        ensures { result.now ≡ output_line self.now }
+    {
+        match self {
+            OutputBad::NoMemory => b"cosim: no memory\n",
+            OutputBad::File(line)
+            | OutputBad::Topology(line)
+            | OutputBad::Image(line)
+            | OutputBad::Asm(line)
+            | OutputBad::NotBuilt(line) => line.as_slice(),
+        }
+    }
 }
 
 impl Refusal {
@@ -23,11 +55,8 @@ impl Refusal {
         match self {
             Refusal::NoMemory => 1,
             Refusal::Usage => 2,
-            Refusal::File(_) => 3,
-            Refusal::Topology(_) => 4,
             Refusal::Out => 9,
-            Refusal::Asm(_) => 11,
-            Refusal::NotBuilt(_) => 20,
+            Refusal::NoOutput(bad) => bad.status(),
         }
     }
 
@@ -38,11 +67,8 @@ impl Refusal {
         match self {
             Refusal::NoMemory => b"cosim: no memory\n",
             Refusal::Usage => b"cosim: usage\n",
-            Refusal::File(line)
-            | Refusal::Topology(line)
-            | Refusal::NotBuilt(line)
-            | Refusal::Asm(line) => line.as_slice(),
             Refusal::Out => b"cosim: out\n",
+            Refusal::NoOutput(bad) => bad.line(),
         }
     }
 }
@@ -50,7 +76,7 @@ impl Refusal {
 /// Writes the line, and answers the exit status. Where the line can't be written, the status is the same.
 pub fn report<E: Sink>(err: &mut E, refusal: &Refusal) -> u8
     ensures status { result ≡ status_of refusal.now }
-    ensures line { IsAttempted (E.written err.old) (E.written err.new) (line_of refusal.now) (E.fault_count err.old) (E.fault_count err.new) }
+    ensures line { IsAttempted (E.seen err.old) (E.seen err.new) (line_of refusal.now) }
 {
     write_line(err, refusal.line());
     refusal.status()

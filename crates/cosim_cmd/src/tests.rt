@@ -9,6 +9,7 @@ use std::test::Fail;
 mod assembling;
 mod checking;
 mod failing;
+mod images;
 mod modelling;
 mod sentences;
 mod switching;
@@ -57,8 +58,7 @@ fn sink(alloc: Global, most: usize, failing: &[u64]) -> Result<MemSink, Fail>
 }
 
 fn files(alloc: Global, text: &[u8]) -> Result<MemFiles, Fail> {
-    let mut content = Octets::new(alloc);
-    content.append(text)?;
+    let content = Octets::from_slice(alloc, text)?;
     let mut files = Items::new(alloc);
     files.push(MemFile {
         name: Text::new(alloc, FILE)?,
@@ -87,8 +87,8 @@ fn answer_of(
     let status = cosim_local(alloc, command.as_slice(), &mut files, out, err);
     Ok(Answer {
         status,
-        out: Items::from_vec(Vec::from_slice(alloc, out.written())?),
-        err: Items::from_vec(Vec::from_slice(alloc, err.written())?),
+        out: Octets::from_slice(alloc, out.written())?,
+        err: Octets::from_slice(alloc, err.written())?,
     })
 }
 

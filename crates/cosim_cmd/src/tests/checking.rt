@@ -45,15 +45,12 @@ latency = 1
 "#;
 
 #[test]
-fn what_cannot_run_yet_can_be_checked(rt: HostRuntime) -> Result<(), Fail> {
+fn what_lacks_a_program_can_be_checked(rt: HostRuntime) -> Result<(), Fail> {
     let topology = format!(in rt.alloc(); "end = 2600{TWO_BEACONS}{AND_MEMORY}")?;
     let checked = on_text(rt.alloc(), "check", topology.as_bytes())?;
     assert_eq!(rt; checked.status, 0);
     let run = on_text(rt.alloc(), "model", topology.as_bytes())?;
-    assert_eq!(rt; run.status, 20);
-    assert_eq!(rt;
-        run.err.as_slice(),
-        b"cosim: not built component 2\n".as_slice()
-    );
+    assert_eq!(rt; run.status, 3);
+    assert_eq!(rt; run.err.as_slice(), b"cosim: file x\n".as_slice());
     Ok(())
 }

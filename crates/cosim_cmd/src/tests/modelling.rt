@@ -83,27 +83,37 @@ const REFUSED: [Refused; 3] = [
         line: "cosim: topology missing key at top\n",
     },
     Refused {
-        topology: ONE_MEMORY,
+        topology: ONE_ADAPTER,
         status: 20,
         line: "cosim: not built component 0\n",
     },
 ];
 
-const ONE_MEMORY: &str = r#"
+const ONE_ADAPTER: &str = r#"
 end = 1
 [[component]]
-name = "m"
-kind = "memory"
-size = 16
+name = "n"
+kind = "nic"
+mac = "02:00:00:00:00:01"
 [[component]]
 name = "h"
 kind = "host"
 ram = 65536
-mem = 1
+pcie = 1
 image = "x"
+[[component]]
+name = "b"
+kind = "beacon"
+count = 0
+from = "02:00:00:00:00:02"
 [[link]]
-a = "m"
+a = "n"
 b = "h"
+latency = 1
+[[link]]
+a = "n"
+a_port = 1
+b = "b"
 latency = 1
 "#;
 

@@ -1,39 +1,34 @@
 use Rattle.std.proofs.Common.{ℕ, ◌≡◌, List, length, ap, sym, subst, ◌∙◌}
 use Rattle.std.proofs.lemmas.List.{length-map}
 use Rattle.std.specs.Prelude.{map}
-use Rattle.cosim_cmd.specs.declared.any_device.AnyDevice.{AnyDevice}
-use Rattle.cosim_cmd.specs.AnyDevice.{any_device}
+use Rattle.device_set.specs.AnyKind.{any_device}
 use Rattle.device_api.specs.World.{global_until, logs_of}
 use Rattle.device_api.specs.Joined.{joined_until}
 use Rattle.device_api.specs.declared.logs.Line.{Line}
 use Rattle.log_join.specs.Before.{AreBefore}
-use Rattle.topology_file.specs.Ports.{names_of}
+use Rattle.topology_file.specs.Ports.{names_of, ports_of}
 use Rattle.topology_file.specs.declared.component.Component.{Component}
 use Rattle.cosim_cmd.specs.Model.{network_of}
-use Rattle.cosim_cmd.proofs.Serving.{ports-starts_of, length-starts_of}
 use Rattle.cosim_cmd.proofs.LogTimes.{logs_of-before, length-logs_of}
 use Rattle.cosim_cmd.proofs.model.joined_log.Goals as goal
-
-pub simulate-requires-clause-matches : goal.simulate-requires-clause-matches
-simulate-requires-clause-matches c =
-    let t = c.args.topology.now in
-    ap (map any_device.ports) c.requires.starts ∙ ports-starts_of 0 t.components c.requires.served ∙ sym t.valid.kinds_of_ports
 
 pub join-requires : goal.join-requires
 join-requires c =
     let t = c.args.topology.now in
     let names : length c.as_slice-2.result.now ≡ length t.components =
     ap length c.as_slice-2.ensures.value ∙ ap length c.in_ok-names.ensures ∙ ap (λ (components : List Component). length (names_of components)) c.as_slice.ensures ∙ length-map t.components (λ (component : Component). component.name) in
-    let net = network_of t in
-    let lists : c.in_ok-logs.logs.lists ≡ logs_of (global_until net t.wiring.end) = c.in_ok-logs.ensures ∙ ap (λ (starts : List AnyDevice). logs_of (global_until (record net { starts = starts }) t.wiring.end)) c.requires.starts in
-    names ∙ sym (length-starts_of t.components c.requires.served) ∙ sym (length-logs_of net t.wiring.end) ∙ sym (ap length lists)
+    let net = network_of t c.args.devices.items in
+    let lists : c.in_ok-logs.logs.lists ≡ logs_of (global_until net t.wiring.end) = c.in_ok-logs.ensures in
+    let devices : length c.args.devices.items ≡ length t.components =
+    sym (length-map c.args.devices.items any_device.ports) ∙ ap length (c.requires.matches ∙ t.valid.kinds_of_ports) ∙ length-map t.components (λ (component : Component). ports_of component.config) in
+    names ∙ sym devices ∙ sym (length-logs_of net t.wiring.end) ∙ sym (ap length lists)
 
 pub returns : goal.returns
 returns c =
     let t = c.args.topology.now in
     let end = t.wiring.end in
-    let net = network_of t in
-    let lists : c.in_ok-logs.logs.lists ≡ logs_of (global_until net end) = c.in_ok-logs.ensures ∙ ap (λ (starts : List AnyDevice). logs_of (global_until (record net { starts = starts }) end)) c.requires.starts in
+    let net = network_of t c.args.devices.items in
+    let lists : c.in_ok-logs.logs.lists ≡ logs_of (global_until net end) = c.in_ok-logs.ensures in
     let names : c.as_slice-2.result.now ≡ names_of t.components = c.as_slice-2.ensures.value ∙ c.in_ok-names.ensures ∙ ap names_of c.as_slice.ensures in
     let before : AreBefore end c.in_ok-logs.logs.lists = subst (λ (logs : List (List Line)). AreBefore end logs) (sym lists) (logs_of-before net end) in
     c.in_ok-text.ensures end before ∙ ap (λ (names : List (List ℕ)). joined_until end names c.in_ok-logs.logs.lists) names ∙ ap (joined_until end (names_of t.components)) lists

@@ -1,0 +1,37 @@
+use Rattle.std.proofs.Common.{rules, ◌≡◌, ℕ, List, ap, sym, subst}
+use Rattle.cosim_cmd.specs.declared.words.Sentence.{Sentence as Read}
+use Rattle.cosim_cmd.specs.declared.words.Sentence.TheVariants as read
+use Rattle.cosim_cmd.specs.declared.refusal.OutputBad.{OutputBad}
+use Rattle.cosim_cmd.specs.Said.{said}
+use Rattle.cosim_cmd.specs.Sentence.{Check, Asm}
+use Rattle.cosim_cmd.specs.Check.{IsChecked}
+use Rattle.cosim_cmd.specs.Asm.{IsAssembled}
+use Rattle.cosim_cmd.specs.Outputs.{IsOutput}
+use Rattle.cosim_cmd.specs.Local.{Lacks, OfRest}
+use Rattle.cosim_cmd.proofs.Reading.{check_made, asm_made, model_lacks}
+use Rattle.cosim_cmd.proofs.local.made.Goals as goal
+
+pub returns-in-Ok-clause-made : goal.returns-in-Ok-clause-made
+returns-in-Ok-clause-made g c =
+    let r = c.args.sentence.now in
+    let bytes = c.args.bytes.now in
+    let seen = g.F.Files.seen c.args.files.now in
+    let is : said r ≡ Check c.in-Check.file.now = ap said c.in-Check.is in
+    check_made r bytes seen c.in-Ok.text c.in-Check.file.now is c.in-Ok.ensures.checked
+
+pub returns-in-Ok-assembled-clause-made : goal.returns-in-Ok-assembled-clause-made
+returns-in-Ok-assembled-clause-made g c =
+    let r = c.args.sentence.now in
+    let bytes = c.args.bytes.now in
+    let seen = g.F.Files.seen c.args.files.now in
+    let is : said r ≡ Asm c.in-Asm.file.now = ap said c.in-Asm.is in
+    asm_made r bytes seen c.in-Ok-assembled.text c.in-Asm.file.now is c.in-Ok-assembled.ensures.assembled
+
+pub returns-in-Err-clause-refused : goal.returns-in-Err-clause-refused
+returns-in-Err-clause-refused g c =
+    let bytes = c.args.bytes.now in
+    let before = g.F.Files.seen c.args.files.now in
+    let after = g.F.Files.seen c.modelled.new.files in
+    let why = model_lacks c.in-Model.file.now bytes before after c.in-Err.bad c.in-Err.ensures.refused in
+    subst (λ (r : Read). Lacks (record { sentence = said r; bytes = bytes }) before after c.of_model.result) (sym c.in-Model.is)
+    (subst (λ (bad : OutputBad). Lacks (record { sentence = said (read.Model c.in-Model.file); bytes = bytes }) before after bad) (sym c.of_model.ensures) why)

@@ -1,0 +1,4 @@
+pub mod AnyKind
+pub mod AnyKindLaws
+pub mod Images
+pub mod Starts

@@ -1,0 +1,81 @@
+use cs_base::{NoMemory, PortKind, Time};
+use device_api::{Beacon, Device, Effects};
+use host_sim::Host;
+use mem_sim::Memory;
+use sb_message::Body;
+use std::alloc::Global;
+use switch_sim::Switch;
+
+/// A device of any kind.
+#[derive(Debug, Drop)]
+pub enum AnyDevice {
+    Beacon(Beacon),
+    Switch(Switch),
+    Memory(Memory),
+    Host(Host),
+}
+
+impl Device for AnyDevice {
+    ghost use Rattle.device_set.specs.AnyKind.{any_device, IsSettledDevice};
+    ghost use Rattle.device_set.specs.AnyKindLaws.{any_lawful};
+
+    ghost behaviour = { any_device };
+
+    ghost settled = { IsSettledDevice };
+
+    fn ports(&self) -> u32 {
+        match self {
+            AnyDevice::Beacon(beacon) => beacon.ports(),
+            AnyDevice::Switch(switch) => switch.ports(),
+            AnyDevice::Memory(memory) => memory.ports(),
+            AnyDevice::Host(host) => host.ports(),
+        }
+    }
+
+    fn kind(&self, port: u32) -> PortKind {
+        match self {
+            AnyDevice::Beacon(beacon) => beacon.kind(port),
+            AnyDevice::Switch(switch) => switch.kind(port),
+            AnyDevice::Memory(memory) => memory.kind(port),
+            AnyDevice::Host(host) => host.kind(port),
+        }
+    }
+
+    #[inline(always)]
+    fn due(&self) -> Option<Time> {
+        match self {
+            AnyDevice::Beacon(beacon) => beacon.due(),
+            AnyDevice::Switch(switch) => switch.due(),
+            AnyDevice::Memory(memory) => memory.due(),
+            AnyDevice::Host(host) => host.due(),
+        }
+    }
+
+    fn take(
+        &mut self,
+        alloc: Global,
+        t: Time,
+        port: u32,
+        body: Body,
+        out: &mut Effects,
+    ) -> Result<(), NoMemory> {
+        match self {
+            AnyDevice::Beacon(beacon) => beacon.take(alloc, t, port, body, out),
+            AnyDevice::Switch(switch) => switch.take(alloc, t, port, body, out),
+            AnyDevice::Memory(memory) => memory.take(alloc, t, port, body, out),
+            AnyDevice::Host(host) => host.take(alloc, t, port, body, out),
+        }
+    }
+
+    #[inline(always)]
+    fn tick(&mut self, alloc: Global, t: Time, out: &mut Effects) -> Result<(), NoMemory> {
+        match self {
+            AnyDevice::Beacon(beacon) => beacon.tick(alloc, t, out),
+            AnyDevice::Switch(switch) => switch.tick(alloc, t, out),
+            AnyDevice::Memory(memory) => memory.tick(alloc, t, out),
+            AnyDevice::Host(host) => host.tick(alloc, t, out),
+        }
+    }
+
+    ghost lawful = { any_lawful };
+}
