@@ -4,6 +4,9 @@ pub mod MemForms
 pub mod NameBytes
 pub mod Names
 pub mod Outside
+pub mod PeerReasons
 pub mod Plan
 pub mod Queues
 pub mod Texts
+pub mod WireForms
+pub mod Wires

@@ -33,9 +33,16 @@ files_seen f = record { held = content_of f.files; asked = Some f.asked; faults 
 abbrev pub read_gives : FilesInMemory → List ℕ → Option (List ℕ)
 read_gives f name = if is_among f.failing f.reads then None else content_of f.files name
 
--- the files after a read of that name, which failed or not
-abbrev pub after_read : FilesInMemory → List ℕ → (faults : ℕ) → FilesInMemory
-after_read f name faults = record f { reads = one_more f.reads; asked = f.asked ++ name ∷ []; faults = faults }
+-- the files before any read
+abbrev pub unread : List MemFile → List ℕ → FilesInMemory
+unread files failing = record { files = files; failing = failing; reads = 0; asked = []; faults = 0 }
+
+-- the files after a read of that name, and after one that failed
+abbrev pub after_read : FilesInMemory → List ℕ → FilesInMemory
+after_read f name = record f { reads = one_more f.reads; asked = f.asked ++ name ∷ [] }
+
+abbrev pub after_failed_read : FilesInMemory → List ℕ → FilesInMemory
+after_failed_read f name = record (after_read f name) { faults = one_more f.faults }
 
 -- a sink in memory: what was written, how many bytes a write takes at most, which writes fail (by their
 -- numbers, from 0), how many writes there were, and the count of faults
@@ -48,6 +55,10 @@ pub record SinkInMemory : Type 0 where
 
 abbrev pub sink_seen : SinkInMemory → SinkSeen
 sink_seen s = record { written = Some s.written; faults = s.faults }
+
+-- the sink before any write
+abbrev pub unwritten : (most : ℕ) → (failing : List ℕ) → SinkInMemory
+unwritten most failing = record { written = []; most = most; failing = failing; writes = 0; faults = 0 }
 
 -- how many of the bytes a write takes
 abbrev pub count_taken : SinkInMemory → List ℕ → ℕ

@@ -1,5 +1,5 @@
 -- What files and sinks tell, and when they may fail.
-use Rattle.std.specs.Prelude.{ℕ, ◌≡◌, ◌<◌, ◌⊎◌, ◌+◌, nat_le, List, [], ◌∷◌, ◌++◌, take, if◌then◌else◌, Option, IfSome, Result, Ok, Err}
+use Rattle.std.specs.Prelude.{ℕ, ◌≡◌, ◌<◌, ◌⊎◌, ◌+◌, nat_le, List, [], ◌∷◌, ◌++◌, take, if◌then◌else◌, Option, option_map, IfSome, Result, Ok, Err}
 use Rattle.cs_base.specs.declared.files.FileBad.{FileBad}
 use Rattle.cs_base.specs.declared.files.FileBad.TheVariants as bad
 
@@ -29,6 +29,14 @@ abbrev pub asked_after : {T : Type 0} → Result T FileBad → List ℕ → List
 asked_after (Ok content) name names = names ++ name ∷ []
 asked_after (Err bad.Failed) name names = names ++ name ∷ []
 asked_after (Err bad.NoMemory) name names = names
+
+-- a read asked for a name, as far as that is told
+abbrev pub AsksFor : {T : Type 0} → Result T FileBad → List ℕ → FilesSeen → FilesSeen → Type 0
+AsksFor result name before after = after.asked ≡ option_map (asked_after result name) before.asked
+
+-- a read failed: the count of faults rose
+abbrev pub FailsOnce : FilesSeen → FilesSeen → Type 0
+FailsOnce before after = Rose before.faults after.faults
 
 -- what a sink tells as written after n bytes more were taken
 abbrev pub written_after : ℕ → List ℕ → List ℕ → List ℕ

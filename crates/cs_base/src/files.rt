@@ -1,5 +1,5 @@
-ghost use Rattle.std.specs.Prelude.{◌≡◌, ◌≤◌, IfOk, OnOk, option_map};
-ghost use Rattle.cs_base.specs.Outside.{FilesSeen, IsTold, Rose, asked_after};
+ghost use Rattle.std.specs.Prelude.{◌≡◌, ◌≤◌, IfOk, OnOk};
+ghost use Rattle.cs_base.specs.Outside.{FilesSeen, IsTold, AsksFor, FailsOnce};
 
 use crate::items::Octets;
 use crate::no_memory::NoMemory;
@@ -42,8 +42,8 @@ pub trait Files {
     fn read(&mut self, alloc: Global, name: &str) -> Result<Octets, FileBad>
         ensures content { IfOk result (IsTold ((seen self.old).held name.now)) }
         ensures unchanged { (seen self.new).held ≡ (seen self.old).held }
-        ensures asked { (seen self.new).asked ≡ option_map (asked_after result name.now) (seen self.old).asked }
+        ensures asked { AsksFor result name.now (seen self.old) (seen self.new) }
         ensures never_falls { (seen self.old).faults ≤ (seen self.new).faults }
         ensures no_fault { OnOk result ((seen self.new).faults ≡ (seen self.old).faults) }
-        ensures failed { result ≡ Err FileBad.Failed → Rose (seen self.old).faults (seen self.new).faults };
+        ensures failed { result ≡ Err FileBad.Failed → FailsOnce (seen self.old) (seen self.new) };
 }

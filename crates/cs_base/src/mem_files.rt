@@ -1,6 +1,6 @@
-ghost use Rattle.std.specs.Prelude.{◌≡◌, ◌≤◌, [], Some, None, IfOk, OnOk, option_map, option_copied};
-ghost use Rattle.cs_base.specs.Outside.{FilesSeen, IsTold, Rose, asked_after, one_more};
-ghost use Rattle.cs_base.specs.MemForms.{FilesInMemory, is_among, file_of, files_seen, read_gives, after_read};
+ghost use Rattle.std.specs.Prelude.{◌≡◌, IfOk, option_copied};
+ghost use Rattle.cs_base.specs.Outside.{one_more};
+ghost use Rattle.cs_base.specs.MemForms.{is_among, file_of};
 
 use crate::files::{FileBad, Files};
 use crate::items::{Items, Octets};
@@ -31,15 +31,21 @@ impl Model for MemFiles {
 
     ghost Value = { FilesInMemory };
 
-    ghost view = { λ m. record { files = m.files; failing = m.failing; reads = m.reads; asked = m.asked; faults = m.faults } };
+    ghost view = { λ m. record {
+      files = m.files;
+      failing = m.failing;
+      reads = m.reads;
+      asked = m.asked;
+      faults = m.faults;
+    } };
 }
 
 impl MemFiles {
-    ghost use Rattle.cs_base.specs.MemForms.{FilesInMemory};
+    ghost use Rattle.cs_base.specs.MemForms.{unread};
 
     /// These files; the reads whose numbers, counted from 0, are in `failing` fail.
     pub fn new(alloc: Global, files: Items<MemFile>, failing: Items<u64>) -> MemFiles
-        ensures { result ≡ record { files = files; failing = failing; reads = 0; asked = []; faults = 0 } }
+        ensures { result ≡ unread files failing }
     {
         MemFiles {
             files,
@@ -90,9 +96,9 @@ impl MemFiles {
 }
 
 impl Files for MemFiles {
-    ghost use Rattle.std.specs.Prelude.{◌≡◌, ◌≤◌, Some, None, IfOk, OnOk, option_map};
-    ghost use Rattle.cs_base.specs.Outside.{FilesSeen, IsTold, Rose, asked_after, one_more};
-    ghost use Rattle.cs_base.specs.MemForms.{files_seen, read_gives, after_read};
+    ghost use Rattle.std.specs.Prelude.{◌≡◌, ◌≤◌, Some, None, IfOk, OnOk};
+    ghost use Rattle.cs_base.specs.Outside.{IsTold, Rose, AsksFor};
+    ghost use Rattle.cs_base.specs.MemForms.{files_seen, read_gives, after_read, after_failed_read};
 
     ghost seen = { files_seen };
 
@@ -105,14 +111,15 @@ impl Files for MemFiles {
     fn read(&mut self, alloc: Global, name: &str) -> Result<Octets, FileBad>
         ensures content { IfOk result (IsTold ((files_seen self.old).held name.now)) }
         ensures unchanged { (files_seen self.new).held ≡ (files_seen self.old).held }
-        ensures asked { (files_seen self.new).asked ≡ option_map (asked_after result name.now) (files_seen self.old).asked }
-        ensures never_falls { (files_seen self.old).faults ≤ (files_seen self.new).faults }
-        ensures no_fault { OnOk result ((files_seen self.new).faults ≡ (files_seen self.old).faults) }
-        ensures failed { result ≡ Err FileBad.Failed → Rose (files_seen self.old).faults (files_seen self.new).faults }
+        ensures asked { AsksFor result name.now (files_seen self.old) (files_seen self.new) }
+        ensures never_falls { self.old.faults ≤ self.new.faults }
+        ensures no_fault { OnOk result (self.new.faults ≡ self.old.faults) }
+        ensures failed { result ≡ Err FileBad.Failed → Rose self.old.faults self.new.faults }
         ensures gives { IfOk result (λ bytes. read_gives self.old name.now ≡ Some bytes) }
         ensures gives_none { result ≡ Err FileBad.Failed → read_gives self.old name.now ≡ None }
-        ensures after { OnOk result (self.new ≡ after_read self.old name.now self.old.faults) }
-        ensures after_failed { result ≡ Err FileBad.Failed → self.new ≡ after_read self.old name.now (one_more self.old.faults) }
+        ensures after { OnOk result (self.new ≡ after_read self.old name.now) }
+        ensures after_failed { result ≡ Err FileBad.Failed
+            → self.new ≡ after_failed_read self.old name.now }
         ensures no_memory { result ≡ Err FileBad.NoMemory → self.new ≡ self.old }
     {
         let found = self.found(name)?;

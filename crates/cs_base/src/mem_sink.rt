@@ -26,19 +26,25 @@ impl Model for MemSink {
 
     ghost Value = { SinkInMemory };
 
-    ghost view = { λ s. record { written = s.written; most = s.most; failing = s.failing; writes = s.writes; faults = s.faults } };
+    ghost view = { λ s. record {
+      written = s.written;
+      most = s.most;
+      failing = s.failing;
+      writes = s.writes;
+      faults = s.faults;
+    } };
 
     ghost invariant = { λ s. 1 ≤ s.most };
 }
 
 impl MemSink {
-    ghost use Rattle.cs_base.specs.MemForms.{SinkInMemory};
+    ghost use Rattle.cs_base.specs.MemForms.{unwritten};
 
     /// An empty sink that takes at most `most` bytes a write; the writes whose numbers, counted from 0, are
     /// in `failing` fail.
     pub fn new(alloc: Global, most: usize, failing: Items<u64>) -> MemSink
         requires { 1 ≤ most }
-        ensures { result ≡ record { written = []; most = most; failing = failing; writes = 0; faults = 0 } }
+        ensures { result ≡ unwritten most failing }
     {
         MemSink {
             written: Octets::new(alloc),
@@ -74,10 +80,10 @@ impl Sink for MemSink {
         ensures within { IfOk result (λ n. n ≤ length bytes.now) }
         ensures taken { IfOk result (λ n. (sink_seen self.new).written
             ≡ option_map (written_after n bytes.now) (sink_seen self.old).written) }
-        ensures refused { OnErr result ((sink_seen self.new).written ≡ (sink_seen self.old).written) }
-        ensures never_falls { (sink_seen self.old).faults ≤ (sink_seen self.new).faults }
-        ensures no_fault { OnOk result ((sink_seen self.new).faults ≡ (sink_seen self.old).faults) }
-        ensures failed { OnErr result (Rose (sink_seen self.old).faults (sink_seen self.new).faults) }
+        ensures refused { OnErr result (self.new.written ≡ self.old.written) }
+        ensures never_falls { self.old.faults ≤ self.new.faults }
+        ensures no_fault { OnOk result (self.new.faults ≡ self.old.faults) }
+        ensures failed { OnErr result (Rose self.old.faults self.new.faults) }
         ensures stated { is_among self.old.failing self.old.writes ≡ true → IsErr result }
         ensures count { IfOk result (λ n. n ≡ count_taken self.old bytes.now) }
         ensures after { OnOk result (self.new ≡ after_write self.old bytes.now) }

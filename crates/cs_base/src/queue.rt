@@ -19,7 +19,10 @@ impl<T> Model for Queue<T> {
 
     ghost Value = { Held T };
 
-    ghost view = { λ queue. record { items = queue.items.items; spare = deque_capacity queue.items - deque_len queue.items } };
+    ghost view = { λ queue. record {
+      items = queue.items.items;
+      spare = deque_capacity queue.items - deque_len queue.items;
+    } };
 }
 
 impl<T> Queue<T> {

@@ -1,4 +1,6 @@
 //! Values from outside, and what no clause says: that calls succeed.
+mod wires;
+
 use crate::{
     FileBad, Files, Items, Link, Mac, MemFile, MemFiles, MemSink, Name, Octets, PortKind,
     RealFiles, RealSink, Sink, Text, Time, Via, Wiring, decimal, hexadecimal, mac_text,
