@@ -1,5 +1,5 @@
 -- The beacon: a station that sends frames by itself at equal distances of time, and logs what it sends and receives.
-use Rattle.std.specs.Prelude.{ℕ, ◌+◌, ◌-◌, ◌*◌, ◌%◌, ◌≤◌, ◌<◌, nat_lt, List, [], ◌∷◌, ◌++◌, length, replicate, codes, decimal, Option, Some, None, if◌then◌else◌}
+use Rattle.std.specs.Prelude.{ℕ, ◌+◌, ◌-◌, ◌*◌, ◌^◌, ◌%◌, ◌≤◌, ◌<◌, nat_lt, List, [], ◌∷◌, ◌++◌, length, replicate, codes, decimal, Option, Some, None, if◌then◌else◌}
 use Rattle.cs_base.specs.declared.beacon_config.BeaconConfig.{BeaconConfig}
 use Rattle.cs_base.specs.declared.port_kind.PortKind.TheVariants.{Eth}
 use Rattle.sb_message.specs.declared.message.Body.{Body}
@@ -25,6 +25,11 @@ started config = record { first = config.first; period = config.period; count = 
 abbrev pub time_of : BeaconState → ℕ → ℕ
 time_of s k = s.first + k * s.period
 
+-- a beacon of a configuration has sent no more frames than it is to send, and the next one is due within 2 * 10^15
+-- picoseconds
+abbrev pub IsWithinRun : BeaconConfig → (sent : ℕ) → Type 0
+IsWithinRun config sent = (sent ≤ config.count) × (config.first + sent * config.period ≤ 2 * 10 ^ 15)
+
 -- frame k: destination and source address, the EtherType 0x88b5 (IEEE 802, for local experiments), and bytes
 -- of the frame's number, modulo 256, up to the frame's size
 abbrev pub frame_of : BeaconState → ℕ → List ℕ
@@ -34,14 +39,18 @@ frame_of s k = s.to ++ s.from ++ (0x88 ∷ (0xb5 ∷ [])) ++ replicate (s.size -
 abbrev pub beacon_due : BeaconState → Option ℕ
 beacon_due s = if nat_lt s.sent s.count then Some (time_of s s.sent) else None
 
+-- a line of a word and a frame's length
+abbrev pub size_line : (word : List ℕ) → ℕ → List ℕ
+size_line word size = word ++ decimal size
+
 -- each frame that arrives is logged with its length
 abbrev pub beacon_take : BeaconState → Body → Reaction BeaconState
-beacon_take s (body.Eth frame) = record { state = s; sends = []; lines = (codes "rx " ++ decimal (length frame)) ∷ [] }
+beacon_take s (body.Eth frame) = record { state = s; sends = []; lines = size_line (codes "rx ") (length frame) ∷ [] }
 beacon_take s other = rest s
 
 -- the next frame is sent and logged
 abbrev pub beacon_tick : BeaconState → Reaction BeaconState
-beacon_tick s = record { state = record s { sent = s.sent + 1 }; sends = (0, body.Eth (frame_of s s.sent)) ∷ []; lines = (codes "tx " ++ decimal s.size) ∷ [] }
+beacon_tick s = record { state = record s { sent = s.sent + 1 }; sends = (0, body.Eth (frame_of s s.sent)) ∷ []; lines = size_line (codes "tx ") s.size ∷ [] }
 
 -- the beacon has one port, for Ethernet
 abbrev pub beacon : Behaviour BeaconState

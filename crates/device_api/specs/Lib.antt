@@ -9,6 +9,7 @@ pub mod Local
 pub mod Parts
 pub mod Counts
 pub mod Transcript
+pub mod GlobalCounts
 pub mod Position
 pub mod Beacon
 pub mod BeaconLaws

@@ -23,3 +23,11 @@ pub record StandsBefore (at : ℕ) (s : BeaconState) : Type 0 where
   pub no_more : s.sent ≤ s.count
   pub last_before : 1 ≤ s.sent → time_of s (s.sent - 1) < at
   pub next_not_past : IsNotPast at (beacon_due s)
+
+-- with the configuration that the beacon was started with, its parts are such as it has before all events at `at`
+abbrev pub ArePartsValid : (at : ℕ) → BeaconState → Type 0
+ArePartsValid at s = (config : BeaconConfig) → IsOf config s → StandsBefore at (resumed config (parts_of s))
+
+-- with that configuration its parts make it again
+abbrev pub MakeItAgain : BeaconState → Type 0
+MakeItAgain s = (config : BeaconConfig) → IsOf config s → resumed config (parts_of s) ≡ s

@@ -17,3 +17,7 @@ pub record IsKept {S : Type 0} (b : Behaviour S) (settled : S → ℕ → Type 0
   pub few_ports : length (b.ports s) ≤ 32
   pub last : ℕ
   pub settled_after : (x : ℕ) → last ≤ x → settled s x
+
+-- that holds of whatever state the device comes to from whatever start
+abbrev pub KeepsItsPorts : {S : Type 0} → Behaviour S → (S → ℕ → Type 0) → Type 0
+KeepsItsPorts {S} b settled = (start s : S) → settled start 0 → IsReached b settled start s → IsKept b settled start s

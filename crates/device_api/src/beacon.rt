@@ -1,8 +1,7 @@
 ghost use Rattle.std.specs.Prelude.{◌≡◌, ◌+◌, ◌*◌, ◌^◌, ◌≤◌, ◌↔◌, ◌++◌, ◌∷◌, [], ℕ, IsTrue, IfOk, IsOk, OnOk, Ok, Err, decimal, length};
-ghost use Rattle.cs_base.specs.declared.beacon_config.BeaconConfig.{BeaconConfig};
 ghost use Rattle.device_api.specs.Behaviour.{IsNotPast};
-ghost use Rattle.device_api.specs.Beacon.{started, frame_of, beacon_due, IsSettledBeacon};
-ghost use Rattle.device_api.specs.Parts.{parts_of, resumed, IsOf, StandsBefore};
+ghost use Rattle.device_api.specs.Beacon.{started, frame_of, beacon_due, size_line, IsSettledBeacon};
+ghost use Rattle.device_api.specs.Parts.{parts_of, resumed, StandsBefore, ArePartsValid, MakeItAgain};
 ghost use Rattle.device_api.specs.declared.parts_bad.PartsBad.TheVariants.{Invalid};
 
 use crate::device::Device;
@@ -54,14 +53,13 @@ fn time_of(config: &BeaconConfig, k: u32) -> u128
 }
 
 impl Model for Beacon {
-    ghost use Rattle.std.specs.Prelude.{◌+◌, ◌*◌, ◌^◌, ◌≤◌};
-    ghost use Rattle.device_api.specs.Beacon.{BeaconState, started};
+    ghost use Rattle.device_api.specs.Beacon.{BeaconState, IsWithinRun, started};
 
     ghost Value = { BeaconState };
 
     ghost view = { λ b. record (started b.config) { sent = b.sent } };
 
-    ghost invariant = { λ b. (b.sent ≤ b.config.count) × (b.config.first + b.sent * b.config.period ≤ 2 * 10 ^ 15) };
+    ghost invariant = { λ b. IsWithinRun b.config b.sent };
 }
 
 impl Beacon {
@@ -83,8 +81,8 @@ impl Beacon {
         requires in_run { at ≤ 10 ^ 15 }
         ensures parts { result ≡ Ok (parts_of self) }
         // With the configuration that the beacon was started with, its parts are valid and make it again.
-        ensures valid { (config : BeaconConfig) → IsOf config self → StandsBefore at (resumed config (parts_of self)) }
-        ensures again { (config : BeaconConfig) → IsOf config self → resumed config (parts_of self) ≡ self }
+        ensures valid { ArePartsValid at self }
+        ensures again { MakeItAgain self }
     {
         Ok(BeaconParts { sent: self.sent })
     }
@@ -126,7 +124,7 @@ impl Beacon {
 
 /// Logs a word and the length of a frame.
 fn log_length(alloc: Global, word: &[u8], length: usize, out: &mut Effects) -> Result<(), NoMemory>
-    ensures lines { OnOk result (out.new.lines ≡ out.old.lines ++ (word.now ++ decimal length) ∷ []) }
+    ensures lines { OnOk result (out.new.lines ≡ out.old.lines ++ size_line word.now length ∷ []) }
     ensures sends { out.new.sends ≡ out.old.sends }
 {
     let mut line = LineText::new(alloc);

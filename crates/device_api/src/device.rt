@@ -45,7 +45,8 @@ pub trait Device: Drop {
         requires not_past { IsNotPast t (behaviour.due self.old) }
         requires in_run { t < 10 ^ 15 }
         requires settled_then { settled self.old (t + 1) }
-        ensures { OnOk result (Gives (behaviour.take self.old t port body) self.new out.old out.new) };
+        ensures { OnOk result
+            (Gives (behaviour.take self.old t port body) self.new out.old out.new) };
 
     /// Does what it does at its due time. What it sends and logs comes behind what `out` has.
     fn tick(&mut self, alloc: Global, t: Time, out: &mut Effects) -> Result<(), NoMemory>

@@ -1,5 +1,5 @@
 -- A plain queue: what it holds, and what pushes and pops leave.
-use Rattle.std.specs.Prelude.{ℕ, ◌≡◌, List, [], ◌∷◌, ◌++◌, length, ◌⊎◌}
+use Rattle.std.specs.Prelude.{ℕ, ◌≡◌, ◌<◌, List, [], ◌∷◌, ◌++◌, length, ◌⊎◌}
 use Rattle.cs_base.specs.declared.port_kind.PortKind.{PortKind}
 use Rattle.sb_message.specs.declared.message.Msg.{Msg}
 use Rattle.sb_message.specs.Stream.{IsStream}
@@ -28,9 +28,10 @@ pub record StandsForReceived (queue : Plain) (received : List Msg) : Type 0 wher
   pub sent : List Msg
   pub both : StandsFor queue sent received
 
--- a message was sent: it stands at the end of what is held
-abbrev pub Pushes : Plain → Msg → Plain → Type 0
-Pushes a m b = b ≡ record a { held = a.held ++ m ∷ [] }
+-- a message was sent: a place was free, and it stands at the end of what is held
+pub record Pushes (a : Plain) (m : Msg) (b : Plain) : Type 0 where
+  pub room : length a.held < a.slots
+  pub is : b ≡ record a { held = a.held ++ m ∷ [] }
 
 -- no place was free, and nothing changed
 pub record Refuses (a b : Plain) : Type 0 where

@@ -1,20 +1,19 @@
 -- The plain queue keeps the laws of both ends.
-use Rattle.std.specs.Prelude.{◌≡◌, ◌+◌, List, [], ◌∷◌, ◌++◌, ◌⊎◌, length}
+use Rattle.std.specs.Prelude.{◌≡◌, List, [], ◌∷◌, ◌++◌, length}
 use Rattle.std.proofs.Common.{arith, inl, inr, ap, sym, ◌∙◌, subst, append_assoc}
-use Rattle.cs_base.specs.declared.port_kind.PortKind.{PortKind}
 use Rattle.sb_message.specs.declared.message.Msg.{Msg}
 use Rattle.sb_message.specs.Stream.{IsStream}
-use Rattle.port_queue.specs.Plain.{Plain, IsSent, StandsFor, StandsForSent, StandsForReceived, Pushes, Refuses, Pops, Empties}
+use Rattle.port_queue.specs.Plain.{Plain, IsSent, StandsForSent, StandsForReceived, Pushes, Refuses, Pops, Empties}
 use Rattle.port_queue.specs.Streams.{stream_so_far}
 
 pub push_kind : (a b : Plain) (m : Msg) → Pushes a m b → b.kind ≡ a.kind
-push_kind a b m pushes = ap (λ (q : Plain). q.kind) pushes
+push_kind a b m pushes = ap (λ (q : Plain). q.kind) pushes.is
 
 pub push_adds : (a b : Plain) (m : Msg) (sent : List Msg) → Pushes a m b → StandsForSent a sent → IsStream a.kind (sent ++ m ∷ []) → StandsForSent b (sent ++ m ∷ [])
 push_adds a b m sent pushes stands stream = record {
   received = stands.received;
   both = record {
-    held_between = ap (λ (q : Plain). stands.received ++ q.held) pushes ∙ sym (append_assoc stands.received a.held (m ∷ [])) ∙ ap (λ l. l ++ m ∷ []) stands.both.held_between;
+    held_between = ap (λ (q : Plain). stands.received ++ q.held) pushes.is ∙ sym (append_assoc stands.received a.held (m ∷ [])) ∙ ap (λ l. l ++ m ∷ []) stands.both.held_between;
     is_sent = inr (subst (λ kind. IsStream kind (sent ++ m ∷ [])) (sym (push_kind a b m pushes)) stream);
   };
 }

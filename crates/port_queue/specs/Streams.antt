@@ -1,8 +1,8 @@
 -- The first messages of a stream are a stream.
-use Rattle.std.specs.Prelude.{ℕ, ◌≡◌, ◌≤◌, ◌<◌, ◌+◌, true, false, List, [], ◌∷◌, ◌++◌, length, map, slice_index_or, refl}
+use Rattle.std.specs.Prelude.{ℕ, ◌≡◌, ◌≤◌, ◌+◌, true, false, List, [], ◌∷◌, ◌++◌, length, map, slice_index_or, refl}
 use Rattle.std.specs.List.{AllByRecursion}
 use Rattle.std.specs.List.Sorted.{IsNonDecreasing}
-use Rattle.std.proofs.Common.{arith, ap, sym, ◌∙◌, subst, length-append}
+use Rattle.std.proofs.Common.{arith, ap, sym, subst, length-append}
 use Rattle.std.proofs.lemmas.List.{get_or_append_left}
 use Rattle.cs_base.specs.declared.port_kind.PortKind.{PortKind}
 use Rattle.sb_message.specs.declared.message.Msg.{Msg}
@@ -29,7 +29,7 @@ abbrev tail_of : List Msg → List Msg
 tail_of [] = []
 tail_of (x ∷ xs) = xs
 
-front-from : (kind : PortKind) (f : Msg) (xs ys : List Msg) → IsStream kind (f ∷ (xs ++ ys)) → IsStream kind (f ∷ xs)
+pub front-from : (kind : PortKind) (f : Msg) (xs ys : List Msg) → IsStream kind (f ∷ (xs ++ ys)) → IsStream kind (f ∷ xs)
 front-from kind f xs ys s = record {
   first = f;
   later = xs;

@@ -26,7 +26,8 @@ impl Model for PlainQueue {
 
     ghost view = { λ queue. record { kind = queue.kind; slots = queue.slots; held = queue.held.items } };
 
-    ghost invariant = { λ queue. (length queue.held.items ≤ queue.slots) × (queue.slots ≤ length queue.held.items + queue.held.spare) };
+    ghost invariant = { λ queue. (length queue.held.items ≤ queue.slots)
+        × (queue.slots ≤ length queue.held.items + queue.held.spare) };
 }
 
 impl PlainQueue {

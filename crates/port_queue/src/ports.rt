@@ -28,14 +28,17 @@ pub trait TxPort {
     /// Sends a message, or gives it back where the channel is full.
     fn push(&mut self, m: Msg) -> Result<(), Full>
         requires { IsNextSent (kind self.old) (stands self.old) m }
-        ensures { MatchResult result (λ _. pushes self.old m self.new) (λ back. (back.0 ≡ m) × refuses self.old self.new) };
+        ensures { MatchResult result (λ _. pushes self.old m self.new)
+            (λ back. (back.0 ≡ m) × refuses self.old self.new) };
 
     /// The message that was pushed is at the end of the list sent.
-    ghost push_adds: { (a b : Self) (m : Msg) (sent : List Msg) → pushes a m b → stands a sent → IsStream (kind a) (sent ++ m ∷ []) → stands b (sent ++ m ∷ []) };
+    ghost push_adds: { (a b : Self) (m : Msg) (sent : List Msg) → pushes a m b → stands a sent
+        → IsStream (kind a) (sent ++ m ∷ []) → stands b (sent ++ m ∷ []) };
 
     ghost push_kind: { (a b : Self) (m : Msg) → pushes a m b → kind b ≡ kind a };
 
-    ghost refusal_keeps: { (a b : Self) (sent : List Msg) → refuses a b → stands a sent → stands b sent };
+    ghost refusal_keeps: { (a b : Self) (sent : List Msg) → refuses a b → stands a sent
+        → stands b sent };
 
     ghost refusal_kind: { (a b : Self) → refuses a b → kind b ≡ kind a };
 }
@@ -60,14 +63,17 @@ pub trait RxPort {
         ensures { MatchOption result (empties self.old self.new) (λ m. pops self.old m self.new) };
 
     /// The message that was popped is at the end of the list received.
-    ghost pop_adds: { (a b : Self) (m : Msg) (received : List Msg) → pops a m b → stands a received → stands b (received ++ m ∷ []) };
+    ghost pop_adds: { (a b : Self) (m : Msg) (received : List Msg) → pops a m b → stands a received
+        → stands b (received ++ m ∷ []) };
 
     /// What is received is a stream of the port's kind.
-    ghost pop_streams: { (a b : Self) (m : Msg) (received : List Msg) → pops a m b → stands a received → IsStream (kind a) (received ++ m ∷ []) };
+    ghost pop_streams: { (a b : Self) (m : Msg) (received : List Msg) → pops a m b → stands a received
+        → IsStream (kind a) (received ++ m ∷ []) };
 
     ghost pop_kind: { (a b : Self) (m : Msg) → pops a m b → kind b ≡ kind a };
 
-    ghost empty_keeps: { (a b : Self) (received : List Msg) → empties a b → stands a received → stands b received };
+    ghost empty_keeps: { (a b : Self) (received : List Msg) → empties a b → stands a received
+        → stands b received };
 
     ghost empty_kind: { (a b : Self) → empties a b → kind b ≡ kind a };
 }

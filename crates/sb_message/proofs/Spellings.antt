@@ -29,8 +29,8 @@ use Rattle.sb_message.specs.declared.msg_bad.MsgBad.{MsgBad}
 use Rattle.sb_message.specs.declared.msg_bad.MsgBad.TheVariants as msg_bad
 use Rattle.sb_message.specs.declared.msg_bad.UpperBad.TheVariants as upper
 use Rattle.sb_message.specs.Receivable.{receivable}
-use Rattle.sb_message.specs.Spelling.{SpellsBody, IsSpelled, Spells, AppendsMessage, ReadsSpelled, last_of, type_of, body_refusal, upper_refusal, refusal, fault_of}
-use Rattle.sb_message.specs.Types.{is_type_of, is_event_type_of, is_known_type, is_dev_type, is_host_type, is_mem_type}
+use Rattle.sb_message.specs.Spelling.{SpellsBody, IsSpelled, Spells, AppendsMessage, ReadsSpelled, last_of, type_of, body_refusal, refusal, fault_of}
+use Rattle.sb_message.specs.Types.{is_type_of, is_known_type, is_dev_type, is_host_type, is_mem_type}
 
 -- ---- what is appended
 

@@ -1,5 +1,5 @@
 -- The bytes of a message, and why bytes are none.
-use Rattle.std.specs.Prelude.{ℕ, ◌≡◌, ◌≢◌, ◌+◌, ◌-◌, ◌*◌, ◌^◌, Bool, true, ◌&&◌, ◌||◌, not, ◌==◌, nat_lt, List, [], ◌∷◌, ◌++◌, length, take, drop, slice_range, replicate, if◌then◌else◌, Option, Some, None, option_map, Result, MatchResult}
+use Rattle.std.specs.Prelude.{ℕ, ◌≡◌, ◌≢◌, ◌+◌, ◌-◌, ◌*◌, ◌^◌, Bool, true, ◌&&◌, not, ◌==◌, nat_lt, List, [], ◌∷◌, ◌++◌, length, take, drop, slice_range, replicate, if◌then◌else◌, Option, Some, None, option_map, Result, MatchResult}
 use Rattle.std.specs.Option.{option_or}
 use Rattle.cs_base.specs.declared.port_kind.PortKind.{PortKind}
 use Rattle.field_layout.specs.Layout.{IsLaidOut, Holds, entry, field_at, number_in, is_zero_elsewhere, first_fault}
