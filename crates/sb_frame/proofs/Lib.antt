@@ -1,0 +1,6 @@
+pub mod Rule
+pub mod Steps
+pub mod Pieces
+pub mod Feeding
+pub mod Lengths
+pub mod Framed

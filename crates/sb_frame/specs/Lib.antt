@@ -1,0 +1,5 @@
+pub mod Starts
+pub mod Frames
+pub mod Faults
+pub mod Deframing
+pub mod Framing

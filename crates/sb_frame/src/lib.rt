@@ -1,0 +1,12 @@
+//! Messages as frames of a byte stream, and back out of a stream that comes in any pieces.
+#![tactic(auto)]
+
+mod deframer;
+mod frame_bad;
+mod framing;
+mod start;
+mod walk;
+
+pub use deframer::Deframer;
+pub use frame_bad::FrameBad;
+pub use framing::frame;
