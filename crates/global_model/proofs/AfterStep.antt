@@ -1,5 +1,5 @@
 -- After a component's moment the run is under way at the next place.
-use Rattle.std.specs.Prelude.{ℕ, suc, ◌≡◌, ◌≢◌, ◌==◌, ◌+◌, ◌≤◌, ◌<◌, ◌^◌, min, nat_le, nat_lt, Bool, true, false, if◌then◌else◌, ◌&&◌, List, [], ◌∷◌, ◌++◌, length, map, slice_get, slice_set, Option, Some, None, IsSome, IfSome, All, option_map, option_and_then, refl, ◌⊎◌}
+use Rattle.std.specs.Prelude.{ℕ, suc, ◌≡◌, ◌≢◌, ◌==◌, ◌+◌, ◌≤◌, ◌<◌, ◌^◌, nat_le, nat_lt, Bool, true, false, if◌then◌else◌, ◌&&◌, List, [], ◌∷◌, ◌++◌, length, map, slice_get, slice_set, Option, Some, None, IsSome, IfSome, All, option_map, option_and_then, refl, ◌⊎◌}
 use Rattle.std.proofs.lemmas.Bool.{false≢true, cases_eq}
 use Rattle.std.proofs.lemmas.Bool.Decides.{nat_tests}
 use Rattle.std.proofs.lemmas.List.{length-map, length-set}
@@ -19,9 +19,9 @@ use Rattle.device_api.specs.declared.component.Component.{Component}
 use Rattle.moment_tree.specs.Places.{clock}
 use Rattle.global_model.specs.declared.routes.Route.{Route}
 use Rattle.global_model.specs.Agenda.{has, IsNext}
-use Rattle.global_model.specs.Inboxes.{port_of, end_at, StartsFrom, IsSoonest}
+use Rattle.global_model.specs.Inboxes.{port_of, end_at, StartsFrom}
 use Rattle.global_model.specs.Post.{events_along, note_all, with_arrivals}
-use Rattle.global_model.proofs.Quiet.{clock_at, clock_past, clock_low, clock_high}
+use Rattle.global_model.proofs.Quiet.{clock_past, clock_low, clock_high}
 use Rattle.global_model.specs.UnderWay.{world_at, latency_at, IsHere, IsBox, IsAwake, component_of, IsUnderWay}
 use Rattle.global_model.proofs.AgendaLaws.{least, AllDue-set, has-set, has-set_other}
 use Rattle.global_model.proofs.ReactionLaws.{bodies_at, bodies_at-filter, take_ports}
@@ -31,7 +31,7 @@ use Rattle.global_model.proofs.TurnLaws.{queue_is, from_time-all}
 use Rattle.std.proofs.lemmas.List.{map-set}
 use Rattle.std.proofs.lemmas.List.Elements.{All-filter}
 use Rattle.device_api.specs.World.{ports_in, with_reaction}
-use Rattle.global_model.proofs.UnderWay.{IsToCome, rises_from, get_some, option_some, if_some_weaker, position_order}
+use Rattle.global_model.proofs.UnderWay.{rises_from, get_some, option_some, if_some_weaker, position_order}
 use Rattle.global_model.proofs.NextMoment.{ports_of, start_ports, queue_is_left, box_rises, kind_within, jumped}
 use Rattle.global_model.proofs.Sending.{IsSent, AreRoutes, events_same, events_sent, first_to_come, no_earlier}
 use Rattle.global_model.proofs.Arriving.{from_time_later, from_time-append, from_time_every, from_time_is, rises_part, rises_append, waiting_append, waiting_all, has-note_all, has-noted_all, AllDue-note_all, length-note_all}
@@ -105,17 +105,17 @@ module _ {S : Type 0} {b : Behaviour S} {settled : S → ℕ → Type 0} {end : 
   abbrev before : End → List Msg
   before e = waiting_at e (world_at (network b starts links) t c).pending
 
-  order : (t < m.at) ⊎ ((t ≡ m.at) × (c ≤ m.component))
+  pub order : (t < m.at) ⊎ ((t ≡ m.at) × (c ≤ m.component))
   order = position_order t c m.at m.component (first_to_come under_way next).not_before
 
-  kinds_at : slice_get kinds m.component ≡ Some (b.ports component.device)
+  pub kinds_at : slice_get kinds m.component ≡ Some (b.ports component.device)
   kinds_at = ports_of under_way m.component component is
 
   same_world : world_at (network b starts links) m.at m.component ≡ world_at (network b starts links) t c
   same_world = jumped under_way m.at m.component (least next) (let below : m.component < length starts = (first_to_come under_way next).in_range in omega arith) order
 
   -- the component's run
-  the_run : (run : Run S) × (slice_get (world_at (network b starts links) t c).runs m.component ≡ Some run) × (component_of run ≡ component)
+  pub the_run : (run : Run S) × (slice_get (world_at (network b starts links) t c).runs m.component ≡ Some run) × (component_of run ≡ component)
   the_run = option_some component_of (slice_get (world_at (network b starts links) t c).runs m.component) component (sym (slice_get-map component_of (world_at (network b starts links) t c).runs m.component) ∙ ap (λ xs. slice_get xs m.component) (sym under_way.components_are) ∙ is)
 
   port_counts : ports_in b (slice_get starts m.component) ≡ length (b.ports component.device)
@@ -132,7 +132,7 @@ module _ {S : Type 0} {b : Behaviour S} {settled : S → ℕ → Type 0} {end : 
       ∙ ap (bodies_at m.at) (sym (queue_is_left under_way (end_at m.component p) (b.ports component.device) kinds_at lt))) s)
       ∙ ap (λ x. react b m.at (arrivals m.at (inputs_of inboxes m.component) (length (b.ports component.device))) x) same_state
 
-  next_world : world_at (network b starts links) m.at (m.component + 1) ≡ with_reaction (network b starts links) m.at m.component (world_at (network b starts links) t c) the_run.0 (moment_in b m.at m.component inboxes component.device)
+  pub next_world : world_at (network b starts links) m.at (m.component + 1) ≡ with_reaction (network b starts links) m.at m.component (world_at (network b starts links) t c) the_run.0 (moment_in b m.at m.component inboxes component.device)
   unfolding slot
   next_world =
       let one_more : suc m.component ≡ m.component + 1 = omega arith in
@@ -157,7 +157,7 @@ module _ {S : Type 0} {b : Behaviour S} {settled : S → ℕ → Type 0} {end : 
       ∙ ap (λ xs. slice_set xs m.component (b.ports component.device)) under_way.ports_same
       ∙ set_itself kinds m.component (b.ports component.device) kinds_at
 
-  are_routes : AreRoutes routes links m.component (length (b.ports component.device))
+  pub are_routes : AreRoutes routes links m.component (length (b.ports component.device))
   are_routes p lt = under_way.routed (end_at m.component p) (kind_within kinds (end_at m.component p) (b.ports component.device) kinds_at lt)
 
   pending_now : (world_at (network b starts links) m.at (m.component + 1)).pending ≡ (world_at (network b starts links) t c).pending ++ events

@@ -1,5 +1,5 @@
 -- What queues and the agenda have after events were sent.
-use Rattle.std.specs.Prelude.{ℕ, ◌≡◌, ◌==◌, ◌+◌, ◌≤◌, ◌<◌, nat_le, Bool, true, false, ◌&&◌, ◌||◌, List, [], ◌∷◌, ◌++◌, length, map, filter, Option, Some, None, IfSome, All, refl}
+use Rattle.std.specs.Prelude.{ℕ, ◌≡◌, ◌≤◌, ◌<◌, nat_le, Bool, true, false, List, [], ◌∷◌, ◌++◌, length, map, filter, Option, All, refl}
 use Rattle.std.proofs.lemmas.Bool.{false≢true}
 use Rattle.std.proofs.lemmas.Bool.Decides.{nat_tests}
 use Rattle.std.proofs.lemmas.List.{map-append}
@@ -7,7 +7,7 @@ use Rattle.std.proofs.lemmas.List.Elements.{All-nil, All-cons, All-head, All-tai
 use Rattle.std.proofs.Common.{sym, ap, ◌∙◌, arith, subst, cond}
 use Rattle.cs_base.specs.Plan.{End, same_end}
 use Rattle.sb_message.specs.declared.message.Msg.{Msg}
-use Rattle.device_api.specs.World.{Event, waiting_at, after}
+use Rattle.device_api.specs.World.{Event, waiting_at}
 use Rattle.global_model.specs.Agenda.{has, note}
 use Rattle.global_model.specs.Post.{note_all}
 use Rattle.global_model.specs.Turn.{from_time, Rises}

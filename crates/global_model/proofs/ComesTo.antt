@@ -1,5 +1,5 @@
 -- A run may stand at any place that no moment of its agenda comes before.
-use Rattle.std.specs.Prelude.{ℕ, ◌≡◌, ◌+◌, ◌≤◌, ◌<◌, ◌⊎◌, true, List, length, map, slice_get, Option, Some, IsSome, IfSome, All, refl}
+use Rattle.std.specs.Prelude.{ℕ, ◌≡◌, ◌+◌, ◌≤◌, ◌<◌, ◌⊎◌, true, List, length, map, slice_get, Option, Some, IsSome, refl}
 use Rattle.std.proofs.lemmas.List.Elements.{All-weaker}
 use Rattle.std.proofs.Common.{sym, ap, ◌∙◌, arith, subst, inl, inr, ⊎_elim}
 use Rattle.cs_base.specs.declared.link.Link.{Link}
@@ -14,14 +14,23 @@ use Rattle.global_model.specs.declared.routes.Route.{Route}
 use Rattle.global_model.specs.Agenda.{has}
 use Rattle.global_model.specs.Inboxes.{port_of}
 use Rattle.global_model.specs.Step.{network}
-use Rattle.global_model.specs.Turn.{queue_in, queue_at, from_time, Rises}
+use Rattle.global_model.specs.Turn.{queue_at, from_time}
 use Rattle.global_model.specs.UnderWay.{world_at, latency_at, IsHere, IsBox, IsAwake, component_of, IsUnderWay}
 use Rattle.global_model.proofs.AgendaLaws.{some_has}
 use Rattle.global_model.proofs.TurnLaws.{queue_is, from_time-all}
 use Rattle.global_model.proofs.Arriving.{from_time_later}
-use Rattle.global_model.proofs.NextMoment.{queue_is_left, box_rises, kind_within, jumped}
+use Rattle.global_model.proofs.NextMoment.{queue_is_left, box_rises, jumped}
 use Rattle.global_model.proofs.AfterStep.{clock_mono, kind_there}
 use Rattle.global_model.proofs.Quiet.{clock_at}
+
+pub order_until : (t c until : ℕ) → t ≤ until → (t ≡ until → c ≡ 0) → (t < until) ⊎ ((t ≡ until) × (c ≤ 0))
+order_until t c until le at_time = ⊎_elim (λ lt. inl lt) (λ e. (let none : c ≡ 0 = at_time e in inr (e, omega arith))) (cases_le t until le)
+  where
+    cases_le : (x y : ℕ) → x ≤ y → (x < y) ⊎ (x ≡ y)
+    cases_le x y le = grind arith
+
+pub bound_until : (until : ℕ) (agenda : List (Option ℕ)) → ((u d : ℕ) → has u d agenda ≡ true → until ≤ u) → (u d : ℕ) → has u d agenda ≡ true → clock until 0 d ≤ u
+bound_until until agenda none_before u d there = let begins : clock until 0 d ≡ until = clock_at until 0 d (omega arith) in let le : until ≤ u = none_before u d there in omega arith
 
 module _ {S : Type 0} {b : Behaviour S} {settled : S → ℕ → Type 0} {end : ℕ} {kinds : List (List PortKind)} {links : List Link} {starts : List S} {routes : List (List (Option Route))} {t c : ℕ} {components : List (Component S)} {inboxes : List (List (List Msg))} {agenda : List (Option ℕ)} (under_way : IsUnderWay b settled end kinds links starts routes t c components inboxes agenda) where
   module _ (t' c' : ℕ) (bound : (u d : ℕ) → has u d agenda ≡ true → clock t' c' d ≤ u) (order : (t < t') ⊎ ((t ≡ t') × (c ≤ c'))) (in_range : c' ≤ length starts) where
@@ -66,13 +75,10 @@ module _ {S : Type 0} {b : Behaviour S} {settled : S → ℕ → Type 0} {end : 
 
   -- up to a time before which the agenda has nothing
   pub comes_to_time : (until : ℕ) → t ≤ until → (t ≡ until → c ≡ 0) → until ≤ end → ((u d : ℕ) → has u d agenda ≡ true → until ≤ u) → IsUnderWay b settled end kinds links starts routes until 0 components inboxes agenda
-  comes_to_time until le at_time in_run none_before = comes_to until 0 (λ u d there. (let begins : clock until 0 d ≡ until = clock_at until 0 d (omega arith) in let le : until ≤ u = none_before u d there in omega arith)) (order (cases_le t until le)) (omega arith) (ends (cases_le until end in_run))
+  comes_to_time until le at_time in_run none_before = comes_to until 0 (bound_until until agenda none_before) (order_until t c until le at_time) (omega arith) (ends (cases_le until end in_run))
     where
       cases_le : (x y : ℕ) → x ≤ y → (x < y) ⊎ (x ≡ y)
       cases_le x y le = grind arith
-
-      order : (t < until) ⊎ (t ≡ until) → (t < until) ⊎ ((t ≡ until) × (c ≤ 0))
-      order which = ⊎_elim (λ lt. inl lt) (λ e. (let none : c ≡ 0 = at_time e in inr (e, omega arith))) which
 
       none : ℕ
       none = 0

@@ -1,7 +1,7 @@
 -- The first of a time and of the first times of queues.
-use Rattle.std.specs.Prelude.{ℕ, ◌≡◌, ◌+◌, ◌≤◌, ◌<◌, min, List, [], ◌∷◌, Option, Some, None, refl}
+use Rattle.std.specs.Prelude.{ℕ, ◌≡◌, ◌+◌, ◌≤◌, List, [], ◌∷◌}
 use Rattle.std.proofs.lemmas.Bool.{cases_eq}
-use Rattle.std.proofs.Common.{sym, ap, ◌∙◌, arith, subst, ⊎_elim}
+use Rattle.std.proofs.Common.{sym, arith, subst, ⊎_elim}
 use Rattle.sb_message.specs.declared.message.Msg.{Msg}
 use Rattle.moment_tree.specs.Dues.{sooner}
 use Rattle.global_model.specs.Inboxes.{first_time, StartsFrom, IsSoonest}

@@ -16,3 +16,8 @@ pub mod FirstTimes
 pub mod StartAndEnd
 pub mod RunLaws
 pub mod RunOn
+pub mod Counting
+pub mod Scripts
+pub mod Tallying
+pub mod Numbers
+pub mod Tallied

@@ -1,5 +1,5 @@
 -- From one moment of the agenda to the next.
-use Rattle.std.specs.Prelude.{ℕ, ◌≡◌, ◌+◌, ◌≤◌, ◌<◌, true, List, [], ◌∷◌, length, slice_get, Option, Some, IsSome, All, option_map, option_and_then, refl, ◌⊎◌}
+use Rattle.std.specs.Prelude.{ℕ, ◌≡◌, ◌≤◌, ◌<◌, true, List, [], length, slice_get, Option, Some, IsSome, option_map, option_and_then, refl, ◌⊎◌}
 use Rattle.std.proofs.lemmas.List.Elements.{All-weaker}
 use Rattle.std.proofs.lemmas.Option.{slice_get-map}
 use Rattle.std.proofs.Common.{sym, ap, ◌∙◌, arith, subst}
@@ -14,7 +14,7 @@ use Rattle.moment_tree.specs.Places.{clock}
 use Rattle.global_model.specs.declared.routes.Route.{Route}
 use Rattle.global_model.specs.Agenda.{has}
 use Rattle.global_model.specs.Inboxes.{end_at}
-use Rattle.global_model.proofs.Quiet.{clock_at, Rests, jump}
+use Rattle.global_model.proofs.Quiet.{Rests, jump}
 use Rattle.global_model.specs.UnderWay.{world_at, IsHere, IsBox, component_of, IsUnderWay}
 use Rattle.global_model.proofs.ReactionLaws.{bodies_at, bodies_at-filter}
 use Rattle.global_model.specs.Step.{network}

@@ -1,5 +1,5 @@
 -- A run at its own time.
-use Rattle.std.specs.Prelude.{ℕ, ◌≡◌, ◌≤◌, ◌^◌, min, Option, Some, None}
+use Rattle.std.specs.Prelude.{ℕ, ◌≤◌, ◌^◌, Option, Some, None}
 use Rattle.std.proofs.Common.{sym, subst, arith}
 use Rattle.device_api.specs.Behaviour.{Behaviour}
 use Rattle.global_model.specs.declared.global_run.Global.{Global}

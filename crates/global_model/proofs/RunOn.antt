@@ -1,10 +1,10 @@
 -- A component that ticks alone makes the moments of the run.
-use Rattle.std.specs.Prelude.{ℕ, suc, zero, ◌≡◌, ◌≢◌, ◌==◌, ◌+◌, ◌-◌, ◌*◌, ◌≤◌, ◌<◌, ◌^◌, min, nat_lt, Bool, true, false, if◌then◌else◌, ◌&&◌, List, [], ◌∷◌, ◌++◌, length, slice_get, slice_set, All, Option, Some, None, IsSome, IfSome, option_map, refl}
+use Rattle.std.specs.Prelude.{ℕ, suc, zero, ◌≡◌, ◌==◌, ◌+◌, ◌-◌, ◌*◌, ◌≤◌, ◌<◌, ◌^◌, min, nat_lt, Bool, true, false, if◌then◌else◌, ◌&&◌, List, [], ◌∷◌, ◌++◌, length, slice_get, slice_set, All, Option, Some, None, IsSome, IfSome, option_map, refl}
 use Rattle.std.proofs.lemmas.Bool.{cases_lt}
 use Rattle.std.proofs.lemmas.Bool.Decides.{nat_tests}
-use Rattle.std.proofs.lemmas.List.{length-set}
+use Rattle.std.proofs.lemmas.List.{length-set, set-get_or}
 use Rattle.std.proofs.lemmas.Option.{slice_get_within}
-use Rattle.std.proofs.Common.{is_lt, nat_cmp, sym, ap, ◌∙◌, arith, subst, ⊎_elim, append-nil}
+use Rattle.std.proofs.Common.{get_or, is_lt, nat_cmp, sym, ap, ◌∙◌, arith, subst, ⊎_elim, append-nil}
 use Rattle.cs_base.specs.declared.link.Link.{Link}
 use Rattle.cs_base.specs.declared.port_kind.PortKind.{PortKind}
 use Rattle.cs_base.specs.Plan.{End}
@@ -12,9 +12,10 @@ use Rattle.sb_message.specs.declared.message.Body.{Body}
 use Rattle.sb_message.specs.declared.message.Msg.{Msg}
 use Rattle.sb_message.specs.Receivable.{MaySend}
 use Rattle.device_api.specs.Behaviour.{Reaction, Behaviour}
-use Rattle.device_api.specs.World.{followed_by, rest, take_all, is_at, react, arrivals, logged_at, waiting_at}
+use Rattle.device_api.specs.World.{followed_by, rest, take_all, is_at, react, logged_at}
 use Rattle.device_api.specs.declared.component.Component.{Component}
 use Rattle.moment_tree.specs.declared.agenda.Moment.{Moment}
+use Rattle.moment_tree.specs.Dues.{sooner}
 use Rattle.moment_tree.specs.Places.{clock}
 use Rattle.global_model.specs.declared.routes.Route.{Route}
 use Rattle.global_model.specs.Agenda.{IsNext}
@@ -24,6 +25,9 @@ use Rattle.global_model.specs.Reactions.{IsMoment}
 use Rattle.global_model.specs.Step.{late_of, moment_in, component_after, IsReady, HasStepped}
 use Rattle.global_model.specs.Turn.{queue_in, queue_at, from_time, Rises, inputs_of, taken_before}
 use Rattle.global_model.specs.UnderWay.{System, Stands, IsUnderWay}
+use Rattle.global_model.specs.Tally.{TallyState, counted_on}
+use Rattle.global_model.specs.Tallied.{AreTallied}
+use Rattle.global_model.proofs.Tallied.{tallied_next}
 use Rattle.global_model.specs.RunOn.{WouldStand, GoesOn, OthersFrom}
 use Rattle.global_model.proofs.AfterStep.{next_place, late_after}
 use Rattle.global_model.proofs.AgendaLaws.{AllDue-set}
@@ -43,6 +47,18 @@ pub set_twice : {X : Type 0} (xs : List X) (i : ℕ) (x y : X) → slice_set (sl
 set_twice [] i x y = refl
 set_twice (z ∷ zs) zero x y = refl
 set_twice (z ∷ zs) (suc i) x y = ap (λ more. z ∷ more) (set_twice zs i x y)
+
+pub set_read : {X : Type 0} (xs : List X) (i : ℕ) (x : X) → x ≡ get_or xs i x → slice_set xs i x ≡ xs
+set_read xs i x is = ap (slice_set xs i) is ∙ set-get_or xs i x
+
+-- a component that ticks on, in the components as they would be
+abbrev pub goes_here : {S : Type 0} (b : Behaviour S) (c : ℕ) (components : List (Component S)) (inboxes : List (List (List Msg))) (next : ℕ) (here : Component S) → c < length components → IsSoonest (late_of (b.due here.device)) (length (b.ports here.device)) (inputs_of inboxes c) next → GoesOn b c (slice_set components c here) inboxes next
+goes_here b c components inboxes next here within soonest = record { component = here; there = get_set_same components c here within; soonest = soonest }
+
+-- the first of a time and of a due time that is cut to the latest end of a run
+pub sooner_late : (t : ℕ) (due : Option ℕ) → t ≤ 10 ^ 15 → sooner t due ≡ min t (late_of due)
+sooner_late t None le = omega arith
+sooner_late t (Some u) le = omega arith
 
 -- a time before anything arrives, at which there is something to do, is the due time
 pub due_is : (due : Option ℕ) (n next waiting : ℕ) (queues : ℕ → List Msg) → IsSoonest (late_of due) n queues next → IsSoonest (10 ^ 15) n queues waiting → next < waiting → due ≡ Some next
@@ -201,6 +217,9 @@ module _ {S : Type 0} {b : Behaviour S} {settled : S → ℕ → Type 0} {system
       pub ticks_on : (agenda3 : List (Option ℕ)) → slice_set agenda3 c (Some soon) ≡ slice_set agenda2 c (Some soon) → next < system.end → WouldStand b settled system routes next c (slice_set components c turned) inboxes2 agenda3 soon
       ticks_on agenda3 set before_end = next_place stands is_next goes_on.component goes_on.there has_ticked set before_end
 
+      pub tallied_on : (agenda3 : List (Option ℕ)) → slice_set agenda3 c (Some soon) ≡ slice_set agenda2 c (Some soon) → (tallies tallies2 : List TallyState) → ((k : ℕ) → slice_get tallies2 k ≡ counted_on k routes c next sends (slice_get tallies k)) → AreTallied b system t (c + 1) tallies → AreTallied b system next (c + 1) tallies2
+      tallied_on agenda3 set tallies tallies2 counted tallied = tallied_next stands tallies tallied is_next goes_on.component goes_on.there has_ticked set tallies2 (λ k. counted k ∙ ap (λ xs. counted_on k routes c next xs (slice_get tallies k)) (sent ∙ ap (λ (r : Reaction S). r.sends) (sym moment_is)))
+
     -- nothing was sent
     module _ (late soon : ℕ) (late_is : late ≡ late_of (b.due turned.device)) (soon_is : soon ≡ min waiting late) (silent : sends ≡ []) where
       short : late ≤ 10 ^ 15
@@ -224,6 +243,13 @@ module _ {S : Type 0} {b : Behaviour S} {settled : S → ℕ → Type 0} {system
 
       pub silent_on : next < system.end → WouldStand b settled system routes next c (slice_set components c turned) inboxes agenda soon
       silent_on before_end = ticks_on inboxes (slice_set agenda c (Some next)) late soon silent_arrives silent_noted late_is silent_soonest agenda (sym (set_twice agenda c (Some next) (Some soon))) before_end
+
+      silent_counted : (tallies : List TallyState) (k : ℕ) → slice_get tallies k ≡ counted_on k routes c next sends (slice_get tallies k)
+      unfolding counted_on
+      silent_counted tallies k = ap (λ xs. counted_on k routes c next xs (slice_get tallies k)) (sym silent)
+
+      pub silent_tallied : (tallies : List TallyState) → AreTallied b system t (c + 1) tallies → AreTallied b system next (c + 1) tallies
+      silent_tallied tallies tallied = tallied_on inboxes (slice_set agenda c (Some next)) late soon silent_arrives silent_noted late_is silent_soonest agenda (sym (set_twice agenda c (Some next) (Some soon))) tallies tallies (silent_counted tallies) tallied
 
       abbrev pub silent_further : GoesOn b c (slice_set components c turned) inboxes soon
       silent_further = record {

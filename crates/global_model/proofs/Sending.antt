@@ -22,7 +22,7 @@ use Rattle.global_model.specs.Agenda.{has, IsNext}
 use Rattle.global_model.specs.Inboxes.{port_of, end_at}
 use Rattle.global_model.specs.Post.{event_along, events_along, IsRouted}
 use Rattle.global_model.proofs.Quiet.{clock_at, clock_low}
-use Rattle.global_model.specs.Routes.{route_along, route_from}
+use Rattle.global_model.specs.Routes.{number_out, route_along, route_from}
 use Rattle.global_model.specs.Step.{IsReady}
 use Rattle.global_model.specs.Turn.{queue_at, Rises}
 use Rattle.global_model.proofs.Ways.{IsWay, way_out, latency_way}
@@ -51,20 +51,20 @@ events_same routes links c t ports (sent ∷ more) before routed may =
     let first : MaySend ports sent.0 sent.1 = All-head (λ (x : ℕ × Body). MaySend ports x.0 x.1) sent more may in
     let s : Sent = record { time = t; port = sent.0; body = sent.1 } in
     let here : event_along (port_of routes (end_at c sent.0)) t sent.1 ≡ event_on before s (out_of (channels links) (end_at c sent.0)) =
-    ap (λ r. event_along r t sent.1) (routed sent.0 (slice_get_within ports sent.0 first.kind first.at_port)) ∙ along before s (out_of (channels links) (end_at c sent.0)) in
+    ap (λ r. event_along r t sent.1) (routed sent.0 (slice_get_within ports sent.0 first.kind first.at_port)) ∙ along before s (number_out (channels links) (end_at c sent.0)) (out_of (channels links) (end_at c sent.0)) in
     ap (λ xs. xs ++ events_along routes c t more) here
     ∙ ap (λ xs. event_on before s (out_of (channels links) (end_at c sent.0)) ++ xs) (events_same routes links c t ports more (before ++ s ∷ []) routed (All-tail (λ (x : ℕ × Body). MaySend ports x.0 x.1) sent more may))
   where
-    along : (before : List Sent) (s : Sent) (found : Option Channel) → event_along (Some (option_map route_along found)) s.time s.body ≡ event_on before s found
-    along before s None = refl
-    along before s (Some ch) = refl
+    along : (before : List Sent) (s : Sent) (k : ℕ) (found : Option Channel) → event_along (Some (option_map (route_along k) found)) s.time s.body ≡ event_on before s found
+    along before s k None = refl
+    along before s k (Some ch) = refl
 
 module _ (end : ℕ) (kinds : List (List PortKind)) (links : List Link) (plan : IsPlan end kinds links) where
   -- a send's event, if there is one
   event_sent : (from : End) (k : PortKind) (t : ℕ) (body : Body) → kind_at kinds from ≡ Some k → receivable (partner k) body ≡ true → is_event body ≡ true → All (IsSent kinds links t) (event_along (Some (route_from links from)) t body)
   event_sent from k t body kind fits event = at (out_of (channels links) from) refl
     where
-      at : (found : Option Channel) → out_of (channels links) from ≡ found → All (IsSent kinds links t) (event_along (Some (option_map route_along found)) t body)
+      at : (found : Option Channel) → out_of (channels links) from ≡ found → All (IsSent kinds links t) (event_along (Some (option_map (route_along (number_out (channels links) from)) found)) t body)
       at None is = All-nil (IsSent kinds links t)
       at (Some ch) is =
           let way : IsWay kinds from ch = way_out kinds links from ch plan.links_join is in
@@ -103,13 +103,13 @@ module _ {S : Type 0} {b : Behaviour S} {settled : S → ℕ → Type 0} {end : 
   routed_at : (e : End) → IsSome (kind_at kinds e) → IsRouted routes inboxes e
   routed_at e there = record { there = subst (λ o. IsSome o) (sym (under_way.routed e there)) refl; short = λ route found. short route (along route found); arrives = λ route found. arrives route (along route found) }
     where
-      along : (route : Route) → port_of routes e ≡ Some (Some route) → (ch : Channel) × (out_of (channels links) e ≡ Some ch) × (route_along ch ≡ route)
-      along route found = let is : Some (route_from links e) ≡ Some (Some route) = sym (under_way.routed e there) ∙ found in option_some route_along (out_of (channels links) e) route (let same : route_from links e ≡ Some route = cc in same)
+      along : (route : Route) → port_of routes e ≡ Some (Some route) → (ch : Channel) × (out_of (channels links) e ≡ Some ch) × (route_along (number_out (channels links) e) ch ≡ route)
+      along route found = let is : Some (route_from links e) ≡ Some (Some route) = sym (under_way.routed e there) ∙ found in option_some (route_along (number_out (channels links) e)) (out_of (channels links) e) route (let same : route_from links e ≡ Some route = cc in same)
 
-      short : (route : Route) → (ch : Channel) × (out_of (channels links) e ≡ Some ch) × (route_along ch ≡ route) → route.latency ≤ 10 ^ 12
+      short : (route : Route) → (ch : Channel) × (out_of (channels links) e ≡ Some ch) × (route_along (number_out (channels links) e) ch ≡ route) → route.latency ≤ 10 ^ 12
       short route found = subst (λ (r : Route). r.latency ≤ 10 ^ 12) found.2 (way_out kinds links e found.0 under_way.plan.links_join found.1).short_latency
 
-      arrives : (route : Route) → (ch : Channel) × (out_of (channels links) e ≡ Some ch) × (route_along ch ≡ route) → IsSome (port_of inboxes (end_at route.component route.port))
+      arrives : (route : Route) → (ch : Channel) × (out_of (channels links) e ≡ Some ch) × (route_along (number_out (channels links) e) ch ≡ route) → IsSome (port_of inboxes (end_at route.component route.port))
       arrives route found =
           let way : IsWay kinds e found.0 = way_out kinds links e found.0 under_way.plan.links_join found.1 in
           let kind : IsSome (kind_at kinds found.0.to) = subst (λ o. IsSome o) (sym way.to_partner) (some_mapped (kind_at kinds e) there) in

@@ -21,9 +21,8 @@ use Rattle.global_model.specs.Inboxes.{port_of}
 use Rattle.global_model.specs.Routes.{route_from}
 use Rattle.global_model.specs.Step.{network, late_of}
 use Rattle.global_model.specs.Turn.{queue_in, queue_at}
-use Rattle.global_model.specs.UnderWay.{world_at, IsHere, IsBox, component_of, IsUnderWay}
+use Rattle.global_model.specs.UnderWay.{IsHere, IsBox, component_of, IsUnderWay}
 use Rattle.std.proofs.lemmas.Option.{get_or_from_slice_get}
-use Rattle.std.proofs.lemmas.List.{length-set}
 use Rattle.std.specs.Ordering.{is_le, nat_cmp}
 use Rattle.std.proofs.lemmas.Map.Keys.{le_from_is_le}
 use Rattle.global_model.proofs.AgendaLaws.{least, has_some, has-set, has-set_other}

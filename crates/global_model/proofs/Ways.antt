@@ -82,17 +82,17 @@ ones false false is = absurd (false≢true is)
 test_flip : (x y : ℕ) → (x == y) ≡ (y == x)
 test_flip x y = grind (arith, nat_tests)
 
-same_end_flip : (x y : End) → same_end x y ≡ same_end y x
+pub same_end_flip : (x y : End) → same_end x y ≡ same_end y x
 same_end_flip x y = ap (λ first. first && (x.port == y.port)) (test_flip x.component y.component) ∙ ap (λ second. (y.component == x.component) && second) (test_flip x.port y.port)
 
 -- an end of a link is used by it
 uses_touched : (link : Link) (e : End) → touches link e ≡ true → 1 ≤ uses_in link e
 uses_touched link e touched = ones (same_end e (first_end link)) (same_end e (second_end link)) (ap (λ first. first || same_end e (second_end link)) (same_end_flip e (first_end link)) ∙ ap (λ second. same_end (first_end link) e || second) (same_end_flip e (second_end link)) ∙ touched)
 
-abbrev forth : Link → Channel
+abbrev pub forth : Link → Channel
 forth link = record { from = first_end link; to = second_end link; latency = link.latency; interval = link.interval }
 
-abbrev back : Link → Channel
+abbrev pub back : Link → Channel
 back link = record { from = second_end link; to = first_end link; latency = link.latency; interval = link.interval }
 
 -- a channel out of a port is one of the first link, or one of the others
@@ -104,7 +104,7 @@ way_cases P link more from ch is by_forth by_back by_others = at (same_end (firs
     at false true found = by_back (let same : back link ≡ ch = cc in same)
     at false false found = by_others found
 
-uses_more : (link : Link) (more : List Link) (e : End) → uses_of (link ∷ more) e ≡ uses_in link e + uses_of more e
+pub uses_more : (link : Link) (more : List Link) (e : End) → uses_of (link ∷ more) e ≡ uses_in link e + uses_of more e
 uses_more link more e = sum_by-cons (λ l. uses_in l e) link more
 
 -- where a channel leads, a link has its end

@@ -1,5 +1,5 @@
 -- When each component has something to do next.
-use Rattle.std.specs.Prelude.{ℕ, ◌≡◌, nat_le, min, Bool, false, List, Option, Some, None, slice_get, slice_set, slice_index_or}
+use Rattle.std.specs.Prelude.{ℕ, ◌≡◌, nat_le, Bool, false, List, Option, Some, None, slice_get, slice_set, slice_index_or}
 use Rattle.moment_tree.specs.declared.agenda.Moment.{Moment}
 use Rattle.moment_tree.specs.Dues.{sooner, IsFirst}
 

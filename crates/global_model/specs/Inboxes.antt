@@ -1,6 +1,8 @@
 -- What waits at each port, in the order of sending.
-use Rattle.std.specs.Prelude.{ℕ, ◌≡◌, ◌==◌, ◌≤◌, ◌<◌, false, if◌then◌else◌, List, [], ◌∷◌, ◌++◌, slice_get, Option, Some, None, option_map, option_and_then}
-use Rattle.cs_base.specs.Plan.{End, same_end}
+use Rattle.std.specs.Prelude.{ℕ, ◌≡◌, ◌==◌, ◌≤◌, ◌<◌, false, if◌then◌else◌, List, [], ◌∷◌, ◌++◌, slice_get, Option, Some, None, IsSome, IfSome, option_map, option_and_then}
+use Rattle.cs_base.specs.declared.port_kind.PortKind.{PortKind}
+use Rattle.cs_base.specs.Plan.{End, same_end, kind_at}
+use Rattle.sb_message.specs.declared.message.Body.{Body}
 use Rattle.sb_message.specs.declared.message.Msg.{Msg}
 
 -- the element of a component's port
@@ -42,3 +44,22 @@ pub record IsSoonest (late count : ℕ) (queues : ℕ → List Msg) (next : ℕ)
   pub at_most : next ≤ late
   pub heads : (p : ℕ) → p < count → StartsFrom next (queues p)
   pub low : (t : ℕ) → t ≤ late → ((p : ℕ) → p < count → StartsFrom t (queues p)) → t ≤ next
+
+abbrev pub message_at : ℕ → Body → Msg
+message_at t body = record { at = t; body = body }
+
+-- nothing waits at the ports
+abbrev pub AreEmpty : List (List PortKind) → List (List (List Msg)) → Type 0
+AreEmpty kinds inboxes = (e : End) → IsSome (kind_at kinds e) → port_of inboxes e ≡ Some []
+
+-- a message was put at the end of a port's queue
+abbrev pub HasPut : End → Msg → List (List (List Msg)) → List (List (List Msg)) → Type 0
+HasPut to message inboxes inboxes' = (e : End) → port_of inboxes' e ≡ put to message (port_of inboxes) e
+
+-- a port's queue had this first message, and has the rest
+abbrev pub HasGiven : End → ℕ → List (List (List Msg)) → List (List (List Msg)) → Body → Type 0
+HasGiven from t inboxes inboxes' body = (rest : List Msg) × (port_of inboxes from ≡ Some (message_at t body ∷ rest)) × ((e : End) → port_of inboxes' e ≡ with_queue (port_of inboxes) from rest e)
+
+-- the first message of a port's queue, if there is one, has another time
+abbrev pub PortStartsOff : ℕ → End → List (List (List Msg)) → Type 0
+PortStartsOff t e inboxes = IfSome (port_of inboxes e) (StartsOff t)

@@ -1,10 +1,12 @@
 pub mod Inboxes
 pub mod Agenda
 pub mod Routes
+pub mod Tally
 pub mod Reactions
 pub mod Turn
 pub mod Post
 pub mod Step
 pub mod UnderWay
+pub mod Tallied
 pub mod Runs
 pub mod RunOn

@@ -37,3 +37,7 @@ pub record IsRouted (routes : List (List (Option Route))) (inboxes : List (List 
 -- each send is by such a port
 abbrev pub AreRouted : List (List (Option Route)) → List (List (List Msg)) → ℕ → List (ℕ × Body) → Type 0
 AreRouted routes inboxes from sends = All (λ (sent : ℕ × Body). IsRouted routes inboxes (end_at from sent.0)) sends
+
+-- what a component sends at t has come to where it arrives
+abbrev pub Arrive : List (List (Option Route)) → ℕ → ℕ → List (ℕ × Body) → List (List (List Msg)) → List (List (List Msg)) → Type 0
+Arrive routes from t sends inboxes inboxes' = (e : End) → port_of inboxes' e ≡ with_arrivals e (events_along routes from t sends) (port_of inboxes e)

@@ -1,20 +1,26 @@
 -- One component's moment: its device reacts, its lines are logged, and what it sends is on its way.
-use Rattle.std.specs.Prelude.{ℕ, ◌≡◌, ◌+◌, ◌<◌, ◌^◌, min, List, ◌++◌, length, slice_set, Option, Some, None}
+use Rattle.std.specs.Prelude.{ℕ, ◌≡◌, ◌+◌, ◌<◌, ◌^◌, min, List, ◌++◌, length, slice_get, slice_set, Option, Some, None}
 use Rattle.cs_base.specs.declared.link.Link.{Link}
 use Rattle.cs_base.specs.Plan.{End}
 use Rattle.sb_message.specs.declared.message.Msg.{Msg}
 use Rattle.device_api.specs.Behaviour.{Reaction, Behaviour, IsNotPast}
 use Rattle.device_api.specs.World.{react, arrivals, logged_at, Network}
 use Rattle.device_api.specs.declared.component.Component.{Component}
+use Rattle.moment_tree.specs.declared.agenda.Moment.{Moment}
 use Rattle.global_model.specs.declared.routes.Route.{Route}
 use Rattle.global_model.specs.Inboxes.{port_of, end_at, IsSoonest}
 use Rattle.global_model.specs.Post.{events_along, note_all, with_arrivals, IsRouted}
 use Rattle.global_model.specs.Reactions.{IsMoment}
+use Rattle.global_model.specs.Tally.{TallyState, AreCounted}
 use Rattle.global_model.specs.Turn.{inputs_of, AreQueues, taken_before}
 
 -- what the device of component c does at t, with these inboxes
 abbrev pub moment_in : {S : Type 0} → Behaviour S → ℕ → ℕ → List (List (List Msg)) → S → Reaction S
 moment_in b t c inboxes s = react b t (arrivals t (inputs_of inboxes c) (length (b.ports s))) s
+
+-- what the device of a moment's component does then, with these inboxes
+abbrev pub reaction_at : {S : Type 0} → Behaviour S → Moment → List (List (List Msg)) → Component S → Reaction S
+reaction_at b m inboxes component = moment_in b m.at m.component inboxes component.device
 
 -- a component after a reaction at t
 abbrev pub component_after : {S : Type 0} → ℕ → Component S → Reaction S → Component S
@@ -43,3 +49,15 @@ pub record HasStepped {S : Type 0} (b : Behaviour S) (settled : S → ℕ → Ty
 -- devices that start in these states, joined by links
 abbrev pub network : {S : Type 0} → Behaviour S → List S → List Link → Network S
 network b starts links = record { behaviour = b; starts = starts; links = links }
+
+-- the moment's component is there, and may have it
+abbrev pub MayStep : {S : Type 0} → Behaviour S → (S → ℕ → Type 0) → Moment → List (List (Option Route)) → List (Component S) → List (List (List Msg)) → Type 0
+MayStep {S} b settled m routes components inboxes = (component : Component S) × (slice_get components m.component ≡ Some component) × IsReady b settled m.at m.component routes inboxes component
+
+-- the moment's component has had it
+abbrev pub Steps : {S : Type 0} → Behaviour S → (S → ℕ → Type 0) → Moment → List (List (Option Route)) → List (Component S) → List (List (List Msg)) → List (Option ℕ) → List (Component S) → List (List (List Msg)) → List (Option ℕ) → ℕ → Type 0
+Steps {S} b settled m routes components inboxes agenda components' inboxes' agenda' next = (component : Component S) → slice_get components m.component ≡ Some component → HasStepped b settled m.at m.component routes component components inboxes agenda components' inboxes' agenda' next
+
+-- and what it sent then is counted
+abbrev pub CountsStep : {S : Type 0} → Behaviour S → Moment → List (List (Option Route)) → List (Component S) → List (List (List Msg)) → List TallyState → List TallyState → Type 0
+CountsStep {S} b m routes components inboxes tallies tallies' = (component : Component S) → slice_get components m.component ≡ Some component → AreCounted routes m.component m.at (reaction_at b m inboxes component).sends tallies tallies'

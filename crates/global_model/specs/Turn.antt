@@ -1,12 +1,13 @@
 -- One moment of one component: what waits for it is taken port by port, and then it ticks if it is due.
-use Rattle.std.specs.Prelude.{ℕ, ◌==◌, ◌≤◌, ◌<◌, nat_le, nat_lt, ◌&&◌, if◌then◌else◌, option_map, IsSome, List, [], ◌∷◌, length, filter, Option, Some, None, All}
+use Rattle.std.specs.Prelude.{ℕ, ◌≡◌, ◌+◌, ◌==◌, ◌≤◌, ◌<◌, nat_le, nat_lt, ◌&&◌, if◌then◌else◌, option_map, IsSome, List, [], ◌∷◌, length, filter, Option, Some, None, All}
 use Rattle.cs_base.specs.declared.port_kind.PortKind.{PortKind}
 use Rattle.cs_base.specs.Plan.{End}
 use Rattle.sb_message.specs.declared.message.Msg.{Msg}
 use Rattle.sb_message.specs.Receivable.{MayReceive}
 use Rattle.device_api.specs.Behaviour.{Reaction, SendsAndLines, Behaviour}
-use Rattle.device_api.specs.World.{take_all, arrivals_on}
-use Rattle.global_model.specs.Inboxes.{port_of, end_at}
+use Rattle.device_api.specs.World.{Arrival, take_all, arrivals, arrivals_on}
+use Rattle.moment_tree.specs.declared.agenda.Moment.{Moment}
+use Rattle.global_model.specs.Inboxes.{port_of, end_at, with_queue}
 
 -- the queue of a port; none where there is no such port
 abbrev pub queue_in : Option (List Msg) → List Msg
@@ -50,3 +51,26 @@ inputs_of inboxes c = λ p. queue_at inboxes (end_at c p)
 pub record AreQueues (ports : List PortKind) (c low : ℕ) (inboxes : List (List (List Msg))) : Type 0 where
   pub there : (p : ℕ) → p < length ports → IsSome (port_of inboxes (end_at c p))
   pub waits : (p : ℕ) → p < length ports → IsQueue ports p low (inputs_of inboxes c p)
+
+-- what waits at a port, and at all ports, of a moment's component is what they may receive from that moment on
+abbrev pub IsQueueFor : List PortKind → ℕ → Moment → List (List (List Msg)) → Type 0
+IsQueueFor ports port m inboxes = IsQueue ports port m.at (queue_at inboxes (end_at m.component port))
+
+abbrev pub AreQueuesFor : List PortKind → Moment → List (List (List Msg)) → Type 0
+AreQueuesFor ports m inboxes = AreQueues ports m.component m.at inboxes
+
+-- a device takes what waits at a port for a moment
+abbrev pub take_waiting : {S : Type 0} → Behaviour S → Moment → ℕ → List (List (List Msg)) → S → Reaction S
+take_waiting b m port inboxes s = take_queue b m.at port (queue_at inboxes (end_at m.component port)) s
+
+-- what waits at the ports of a device for a moment
+abbrev pub arriving : {S : Type 0} → Behaviour S → Moment → List (List (List Msg)) → S → List Arrival
+arriving b m inboxes s = arrivals m.at (inputs_of inboxes m.component) (length (b.ports s))
+
+-- a port has taken what it has for a moment
+abbrev pub HasTaken : Moment → ℕ → List (List (List Msg)) → List (List (List Msg)) → Type 0
+HasTaken m port inboxes inboxes' = (e : End) → port_of inboxes' e ≡ with_queue (port_of inboxes) (end_at m.component port) (from_time (m.at + 1) (queue_at inboxes (end_at m.component port))) e
+
+-- the first so many ports have
+abbrev pub HaveTaken : Moment → ℕ → List (List (List Msg)) → List (List (List Msg)) → Type 0
+HaveTaken m count inboxes inboxes' = (e : End) → port_of inboxes' e ≡ taken_before (m.at + 1) m.component count (port_of inboxes) e

@@ -73,3 +73,19 @@ pub record System (S : Type 0) : Type 0 where
 
 abbrev pub Stands : {S : Type 0} → Behaviour S → (S → ℕ → Type 0) → System S → List (List (Option Route)) → ℕ → ℕ → List (Component S) → List (List (List Msg)) → List (Option ℕ) → Type 0
 Stands b settled system routes t c components inboxes agenda = IsUnderWay b settled system.end system.kinds system.links system.starts routes t c components inboxes agenda
+
+-- a component that has logged nothing yet
+abbrev pub fresh : {S : Type 0} → S → Component S
+fresh device = record { device = device; log = [] }
+
+-- the agenda has the moment at which each component is due
+abbrev pub AreDuesNoted : {S : Type 0} → Behaviour S → List (Component S) → List (Option ℕ) → Type 0
+AreDuesNoted {S} b components agenda = (d : ℕ) (component : Component S) → slice_get components d ≡ Some component → IfSome (b.due component.device) (λ u. has u d agenda ≡ true)
+
+-- a run of some system stands at t, and may go on until a time
+abbrev pub MayGoOn : {S : Type 0} → Behaviour S → (S → ℕ → Type 0) → List (List (Option Route)) → ℕ → ℕ → List (Component S) → List (List (List Msg)) → List (Option ℕ) → Type 0
+MayGoOn {S} b settled routes t until components inboxes agenda = (system : System S) × Stands b settled system routes t 0 components inboxes agenda × (until ≤ system.end)
+
+-- of whatever system a run stands at t, it then stands at a time
+abbrev pub RunsUntil : {S : Type 0} → Behaviour S → (S → ℕ → Type 0) → List (List (Option Route)) → ℕ → ℕ → List (Component S) → List (List (List Msg)) → List (Option ℕ) → List (Component S) → List (List (List Msg)) → List (Option ℕ) → Type 0
+RunsUntil {S} b settled routes t until components inboxes agenda components' inboxes' agenda' = (system : System S) → Stands b settled system routes t 0 components inboxes agenda → until ≤ system.end → Stands b settled system routes until 0 components' inboxes' agenda'

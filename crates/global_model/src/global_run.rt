@@ -1,20 +1,19 @@
-ghost use Rattle.std.specs.Prelude.{◌≡◌, ◌≤◌, ◌<◌, ℕ, [], length, map, All, IfOk, IfSome, OnOk, slice_get, Some, true};
-ghost use Rattle.device_api.specs.World.{logs_of, global_until};
-ghost use Rattle.device_api.specs.declared.component.Component.{Component as Part};
-ghost use Rattle.global_model.specs.Agenda.{has};
-ghost use Rattle.global_model.specs.Step.{network};
-ghost use Rattle.global_model.specs.UnderWay.{System, Stands};
+ghost use Rattle.std.specs.Prelude.{◌≡◌, ◌≤◌, ◌<◌, [], length, map, All, IfOk, OnOk};
+ghost use Rattle.global_model.specs.Runs.{HasLogsOf, HasCountsOf};
+ghost use Rattle.global_model.specs.Tallied.{CountsUntil};
+ghost use Rattle.global_model.specs.UnderWay.{fresh, AreDuesNoted, MayGoOn, RunsUntil};
 
 use crate::inboxes::Inboxes;
 use crate::routes::Routes;
 use crate::run_on::run_on;
 use crate::soonest::late;
 use crate::step::step;
+use crate::tallies::Tallies;
 use cs_base::items::Items;
 use cs_base::no_memory::NoMemory;
 use cs_base::time::Time;
 use cs_base::wiring::Wiring;
-use device_api::{Component, Device, Effects, Logs};
+use device_api::{Component, Count, Device, Effects, Logs, Outcome};
 use moment_tree::Agenda;
 use std::alloc;
 
@@ -28,11 +27,12 @@ pub struct Global<V> {
     routes: Routes,
     inboxes: Inboxes,
     agenda: Agenda,
+    tallies: Tallies,
     done: Effects,
 }
 
 impl<V: Device> Global<V> {
-    ghost use Rattle.global_model.specs.Runs.{system_of, IsAt, MayRunUntil, ComesTo, AreComponents, AreLogs};
+    ghost use Rattle.global_model.specs.Runs.{system_of, IsAt, IsRun, MayRunUntil, ComesTo, AreComponents, AreCounts, HasLogs, HasCounts};
 
     /// The run of devices at their start.
     pub fn start(
@@ -49,12 +49,14 @@ impl<V: Device> Global<V> {
         let inboxes = Inboxes::new(alloc, kinds)?;
         let components = components_of(alloc, devices)?;
         let agenda = first_agenda(alloc, components.as_slice())?;
+        let tallies = Tallies::new(alloc, wiring.links.as_slice())?;
         Ok(Global {
             time: Time(0),
             components,
             routes,
             inboxes,
             agenda,
+            tallies,
             done: Effects::new(alloc),
         })
     }
@@ -81,6 +83,7 @@ impl<V: Device> Global<V> {
             &self.routes,
             &mut self.inboxes,
             &mut self.agenda,
+            &mut self.tallies,
             &mut self.done,
         )?;
         self.time = until;
@@ -94,27 +97,42 @@ impl<V: Device> Global<V> {
         self.components
     }
 
-    /// What the components have logged.
-    pub fn into_logs(self, alloc: alloc::Global) -> Result<Logs, NoMemory>
-        ensures { IfOk result (λ logs. AreLogs V.behaviour V.settled self logs.lists) }
+    /// What went on each channel, by the channels' numbers: link `j` has the channels `2 * j`, from its first end to
+    /// its second, and `2 * j + 1` back.
+    pub fn counts(&self, alloc: alloc::Global) -> Result<Items<Count>, NoMemory>
+        requires { IsRun V.behaviour V.settled self.now }
+        ensures { IfOk result (AreCounts V.behaviour V.settled self.now) }
     {
-        finish(alloc, self.components)
+        self.tallies.counts_before(alloc, self.time)
+    }
+
+    /// What the components have logged, and what went on the channels.
+    pub fn into_outcome(self, alloc: alloc::Global) -> Result<Outcome, NoMemory>
+        requires { IsRun V.behaviour V.settled self }
+        ensures logs { IfOk result (HasLogs V.behaviour V.settled self) }
+        ensures counts { IfOk result (HasCounts V.behaviour V.settled self) }
+    {
+        let counts = self.tallies.counts_before(alloc, self.time)?;
+        let logs = finish(alloc, self.components)?;
+        Ok(Outcome { logs, counts })
     }
 }
 
-/// Runs devices that are joined by a wiring, from their starts to the wiring's end, and gives what they logged.
+/// Runs devices that are joined by a wiring, from their starts to the wiring's end, and gives what they logged and how
+/// many messages went on each channel.
 pub fn simulate<V: Device>(
     alloc: alloc::Global,
     devices: Vec<V>,
     wiring: &Wiring,
-) -> Result<Logs, NoMemory>
+) -> Result<Outcome, NoMemory>
     requires matches { map V.behaviour.ports devices.items ≡ wiring.now.kinds }
     requires at_start { All (λ device. V.settled device 0) devices.items }
-    ensures { IfOk result (λ logs. logs.lists ≡ logs_of (global_until (network V.behaviour devices.items wiring.now.links) wiring.now.end)) }
+    ensures logs { IfOk result (HasLogsOf V.behaviour devices.items wiring.now) }
+    ensures counts { IfOk result (HasCountsOf V.behaviour devices.items wiring.now) }
 {
     let mut run = Global::start(alloc, devices, wiring)?;
     run.advance(alloc, wiring.end)?;
-    run.into_logs(alloc)
+    run.into_outcome(alloc)
 }
 
 /// Processes all moments from a time on that are before another.
@@ -126,13 +144,18 @@ fn run_until<V: Device>(
     routes: &Routes,
     inboxes: &mut Inboxes,
     agenda: &mut Agenda,
+    tallies: &mut Tallies,
     done: &mut Effects,
 ) -> Result<(), NoMemory>
-    requires may_run { (system : System V) × Stands V.behaviour V.settled system routes.now from 0 components.old.items inboxes.old agenda.old × (until ≤ system.end) }
+    requires may_run { MayGoOn V.behaviour V.settled routes.now from until
+        components.old.items inboxes.old agenda.old }
     requires later { from ≤ until }
     requires nothing_sent { done.old.sends ≡ [] }
     requires nothing_logged { done.old.lines ≡ [] }
-    ensures comes { OnOk result ((system : System V) → Stands V.behaviour V.settled system routes.now from 0 components.old.items inboxes.old agenda.old → until ≤ system.end → Stands V.behaviour V.settled system routes.now until 0 components.new.items inboxes.new agenda.new) }
+    ensures comes { OnOk result (RunsUntil V.behaviour V.settled routes.now from until
+        components.old.items inboxes.old agenda.old components.new.items inboxes.new agenda.new) }
+    ensures counted { OnOk result (CountsUntil V.behaviour V.settled routes.now from until
+        components.old.items inboxes.old agenda.old tallies.old tallies.new) }
     ensures all_sent { OnOk result (done.new.sends ≡ []) }
     ensures all_logged { OnOk result (done.new.lines ≡ []) }
 {
@@ -143,7 +166,9 @@ fn run_until<V: Device>(
         if until <= moment.at {
             return Ok(());
         }
-        let next = step(alloc, &moment, components, routes, inboxes, agenda, done)?;
+        let next = step(
+            alloc, &moment, components, routes, inboxes, agenda, tallies, done,
+        )?;
         let stood = run_on(
             alloc,
             moment.component,
@@ -154,6 +179,7 @@ fn run_until<V: Device>(
             routes,
             inboxes,
             agenda,
+            tallies,
             done,
         )?;
         agenda.set(moment.component, Some(stood.next));
@@ -168,7 +194,7 @@ fn components_of<V: Device>(
     alloc: alloc::Global,
     devices: Vec<V>,
 ) -> Result<Vec<Component<V>>, NoMemory>
-    ensures { IfOk result (λ components. components.items ≡ map (λ device. record { device = device; log = [] }) devices.items) }
+    ensures { IfOk result (λ components. components.items ≡ map fresh devices.items) }
 {
     let mut components = Vec::new(alloc);
     for device in devices {
@@ -187,7 +213,7 @@ fn first_agenda<V: Device>(
 ) -> Result<Agenda, NoMemory>
     requires some { 1 ≤ length components.now }
     requires few { length components.now ≤ 64 }
-    ensures noted { IfOk result (λ agenda. (d : ℕ) (component : Part V) → slice_get components.now d ≡ Some component → IfSome (V.behaviour.due component.device) (λ u. has u d agenda ≡ true)) }
+    ensures noted { IfOk result (AreDuesNoted V.behaviour components.now) }
     ensures roomy { IfOk result (λ agenda. length agenda ≡ length components.now) }
 {
     let mut agenda = Agenda::new(alloc, components.len())?;

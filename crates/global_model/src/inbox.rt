@@ -1,5 +1,5 @@
 ghost use Rattle.std.specs.Prelude.{◌≡◌, ◌∷◌, ◌++◌, [], IfSome, IfNone, OnOk};
-ghost use Rattle.global_model.specs.Inboxes.{StartsOff, first_time};
+ghost use Rattle.global_model.specs.Inboxes.{StartsOff, first_time, message_at};
 
 use cs_base::no_memory::NoMemory;
 use cs_base::queue::Queue;
@@ -50,7 +50,7 @@ impl Inbox {
 
     /// Takes the first message where it has this time.
     pub fn take_at(&mut self, t: Time) -> Option<Body>
-        ensures first { IfSome result (λ body. self.old ≡ record { at = t; body = body } ∷ self.new) }
+        ensures first { IfSome result (λ body. self.old ≡ message_at t body ∷ self.new) }
         ensures none { IfNone result (self.new ≡ self.old) }
         ensures starts_off { IfNone result (StartsOff t self.old) }
     {

@@ -1,7 +1,6 @@
-ghost use Rattle.std.specs.Prelude.{◌≡◌, ◌<◌, slice_get, ◌∷◌, ◌++◌, [], Option, Some, None, IsSome, IfSome, IfNone, IfOk, OnOk, option_map, ℕ, List};
-ghost use Rattle.cs_base.specs.Plan.{End, kind_at};
-ghost use Rattle.sb_message.specs.declared.message.Msg.{Msg as Message};
-ghost use Rattle.global_model.specs.Inboxes.{port_of, end_at, with_queue, put, first_time, StartsOff};
+ghost use Rattle.std.specs.Prelude.{◌≡◌, ◌<◌, slice_get, [], Some, IsSome, IfSome, IfNone, IfOk, OnOk, ℕ};
+ghost use Rattle.cs_base.specs.Plan.{End};
+ghost use Rattle.global_model.specs.Inboxes.{port_of, end_at, first_time, AreEmpty, HasPut, HasGiven, PortStartsOff};
 ghost use Rattle.global_model.specs.Turn.{queue_at};
 
 use crate::inbox::Inbox;
@@ -31,7 +30,7 @@ impl Model for Inboxes {
 impl Inboxes {
     /// Empty inboxes of components whose ports are of these kinds.
     pub fn new(alloc: Global, kinds: &[Items<PortKind>]) -> Result<Inboxes, NoMemory>
-        ensures { IfOk result (λ inboxes. (e : End) → IsSome (kind_at kinds.now e) → port_of inboxes e ≡ Some []) }
+        ensures { IfOk result (AreEmpty kinds.now) }
     {
         let mut components = Vec::new(alloc);
         for (_component, ports) in kinds.iter().enumerate() {
@@ -43,7 +42,7 @@ impl Inboxes {
     /// Puts a message at the end of a port's queue.
     pub fn push(&mut self, component: u32, port: u32, message: Msg) -> Result<(), NoMemory>
         requires { IsSome (port_of self.old (end_at component port)) }
-        ensures { OnOk result ((e : End) → port_of self.new e ≡ put (end_at component port) message (port_of self.old) e) }
+        ensures { OnOk result (HasPut (end_at component port) message self.old self.new) }
     {
         self.components[component as usize][port as usize].push(message)
     }
@@ -59,9 +58,9 @@ impl Inboxes {
     /// Takes the first message of a port's queue where it has this time.
     pub fn take_at(&mut self, component: u32, port: u32, t: Time) -> Option<Body>
         requires { IsSome (port_of self.old (end_at component port)) }
-        ensures first { IfSome result (λ body. (rest : List Message) × (port_of self.old (end_at component port) ≡ Some (record { at = t; body = body } ∷ rest)) × ((e : End) → port_of self.new e ≡ with_queue (port_of self.old) (end_at component port) rest e)) }
+        ensures first { IfSome result (HasGiven (end_at component port) t self.old self.new) }
         ensures none { IfNone result ((e : End) → port_of self.new e ≡ port_of self.old e) }
-        ensures starts_off { IfNone result (IfSome (port_of self.old (end_at component port)) (StartsOff t)) }
+        ensures starts_off { IfNone result (PortStartsOff t (end_at component port) self.old) }
     {
         self.components[component as usize][port as usize].take_at(t)
     }

@@ -10,6 +10,8 @@ mod routes;
 mod run_on;
 mod soonest;
 mod step;
+mod tallies;
+mod tally;
 mod turn;
 
 pub use global_run::{Global, simulate};

@@ -1,17 +1,17 @@
 ghost use Rattle.std.specs.Prelude.{◌≡◌, ◌^◌, ◌<◌, [], OnOk};
-ghost use Rattle.cs_base.specs.Plan.{End};
-ghost use Rattle.global_model.specs.Inboxes.{port_of};
-ghost use Rattle.global_model.specs.Post.{events_along, note_all, with_arrivals, AreRouted};
+ghost use Rattle.global_model.specs.Post.{events_along, note_all, AreRouted, Arrive};
+ghost use Rattle.global_model.specs.Tally.{AreCounted};
 
 use crate::inboxes::Inboxes;
 use crate::routes::Routes;
+use crate::tallies::Tallies;
 use cs_base::items::Items;
 use cs_base::no_memory::NoMemory;
 use cs_base::time::Time;
 use moment_tree::Agenda;
 use sb_message::{Body, Msg};
 
-/// Puts what a component sent at a time, by which port, into the inboxes where it arrives, and notes when.
+/// Puts what a component sent at a time, by which port, into the inboxes where it arrives, notes when, and counts it.
 pub fn post(
     from: u32,
     t: Time,
@@ -19,11 +19,14 @@ pub fn post(
     routes: &Routes,
     inboxes: &mut Inboxes,
     agenda: &mut Agenda,
+    tallies: &mut Tallies,
 ) -> Result<(), NoMemory>
     requires in_run { t < 10 ^ 15 }
     requires routed { AreRouted routes.now inboxes.old from sends.old }
-    ensures arrives { OnOk result ((e : End) → port_of inboxes.new e ≡ with_arrivals e (events_along routes.now from t sends.old) (port_of inboxes.old e)) }
-    ensures noted { OnOk result (agenda.new ≡ note_all (events_along routes.now from t sends.old) agenda.old) }
+    ensures arrives { OnOk result (Arrive routes.now from t sends.old inboxes.old inboxes.new) }
+    ensures noted { OnOk result
+        (agenda.new ≡ note_all (events_along routes.now from t sends.old) agenda.old) }
+    ensures counted { OnOk result (AreCounted routes.now from t sends.old tallies.old tallies.new) }
     ensures emptied { OnOk result (sends.new ≡ []) }
 {
     sends.reverse();
@@ -34,6 +37,7 @@ pub fn post(
         let at = Time(t.picoseconds() + route.latency.picoseconds());
         inboxes.push(route.component, route.port, Msg { at, body })?;
         agenda.note(route.component, at);
+        tallies.send(route.channel, t);
     }
     Ok(())
 }

@@ -1,7 +1,6 @@
-ghost use Rattle.std.specs.Prelude.{◌≡◌, ◌<◌, ℕ, Option, Some, IsSome, IfOk, slice_get, option_and_then};
-ghost use Rattle.cs_base.specs.Plan.{End, kind_at};
+ghost use Rattle.std.specs.Prelude.{◌≡◌, Some, IsSome, IfOk};
 ghost use Rattle.global_model.specs.Inboxes.{port_of, end_at};
-ghost use Rattle.global_model.specs.Routes.{route_from};
+ghost use Rattle.global_model.specs.Routes.{route_from, AreRoutes, AreRoutesOf};
 
 use cs_base::items::Items;
 use cs_base::link::Link;
@@ -11,12 +10,13 @@ use cs_base::time::Time;
 use std::alloc::Global;
 use std::marker::Model;
 
-/// Where what a port sends arrives, and how long it travels.
+/// Where what a port sends arrives, how long it travels, and the number of its channel.
 #[derive(Clone, Copy, Debug, PartialEq, Eq)]
 pub struct Route {
     pub component: u32,
     pub port: u32,
     pub latency: Time,
+    pub channel: usize,
 }
 
 /// The route out of each port of each component.
@@ -37,7 +37,7 @@ impl Model for Routes {
 impl Routes {
     /// The routes along the links of components with ports of these kinds.
     pub fn new(alloc: Global, kinds: &[Items<PortKind>], links: &[Link]) -> Result<Routes, NoMemory>
-        ensures { IfOk result (λ routes. (e : End) → IsSome (kind_at kinds.now e) → port_of routes e ≡ Some (route_from links.now e)) }
+        ensures { IfOk result (AreRoutes kinds.now links.now) }
     {
         let mut components = Vec::new(alloc);
         for (component, ports) in kinds.iter().enumerate() {
@@ -62,7 +62,7 @@ fn routes_out_of(
     ports: usize,
     links: &[Link],
 ) -> Result<Vec<Option<Route>>, NoMemory>
-    ensures { IfOk result (λ routes. (p : ℕ) → p < ports → slice_get routes.items p ≡ Some (route_from links.now (end_at component p))) }
+    ensures { IfOk result (λ routes. AreRoutesOf component ports links.now routes.items) }
 {
     let mut routes = Vec::new(alloc);
     for port in 0..ports {
@@ -75,12 +75,13 @@ fn routes_out_of(
 fn route_out_of(component: usize, port: usize, links: &[Link]) -> Option<Route>
     ensures { result ≡ route_from links.now (end_at component port) }
 {
-    for link in links {
+    for (number, link) in links.iter().enumerate() {
         if link.a as usize == component && link.a_port as usize == port {
             return Some(Route {
                 component: link.b,
                 port: link.b_port,
                 latency: link.latency,
+                channel: 2 * number,
             });
         }
         if link.b as usize == component && link.b_port as usize == port {
@@ -88,6 +89,7 @@ fn route_out_of(component: usize, port: usize, links: &[Link]) -> Option<Route>
                 component: link.a,
                 port: link.a_port,
                 latency: link.latency,
+                channel: 2 * number + 1,
             });
         }
     }

@@ -1,15 +1,15 @@
-ghost use Rattle.std.specs.Prelude.{◌≡◌, ◌+◌, ◌++◌, ◌≤◌, ◌<◌, ◌^◌, [], OnOk, IfOk, Some};
-ghost use Rattle.device_api.specs.World.{logged_at};
-ghost use Rattle.global_model.specs.RunOn.{WouldStand, GoesOn, OthersFrom};
-ghost use Rattle.global_model.specs.UnderWay.{System};
+ghost use Rattle.std.specs.Prelude.{◌≡◌, ◌+◌, ◌≤◌, ◌<◌, ◌^◌, [], OnOk, IfOk, Some};
+ghost use Rattle.global_model.specs.RunOn.{GoesOn, MayRunOn, RunsOn, CountsOn, HasTicked, HasLogged, OthersFrom};
 
 use crate::inboxes::Inboxes;
 use crate::post::post;
 use crate::routes::Routes;
-use crate::soonest::{LATEST, first_of, late, soonest};
+use crate::soonest::{LATEST, first_of, late, sooner, soonest};
+use crate::tallies::Tallies;
+use crate::turn::log_lines;
 use cs_base::no_memory::NoMemory;
 use cs_base::time::Time;
-use device_api::{Component, Device, Effects, log_all};
+use device_api::{Component, Device, Effects};
 use moment_tree::Agenda;
 use std::alloc::Global;
 
@@ -34,36 +34,49 @@ pub fn run_on<V: Device>(
     routes: &Routes,
     inboxes: &mut Inboxes,
     agenda: &mut Agenda,
+    tallies: &mut Tallies,
     done: &mut Effects,
 ) -> Result<Stood, NoMemory>
-    requires stands { (system : System V) × WouldStand V.behaviour V.settled system routes.now from component components.old.items inboxes.old agenda.old first × (until ≤ system.end) }
+    requires stands { MayRunOn V.behaviour V.settled routes.now from until component first
+        components.old.items inboxes.old agenda.old }
     requires goes_on { GoesOn V.behaviour component components.old.items inboxes.old first }
     requires before { from < until }
     requires nothing_sent { done.old.sends ≡ [] }
     requires nothing_logged { done.old.lines ≡ [] }
-    ensures comes { IfOk result (λ stood. (system : System V) → WouldStand V.behaviour V.settled system routes.now from component components.old.items inboxes.old agenda.old first → until ≤ system.end → WouldStand V.behaviour V.settled system routes.now stood.last component components.new.items inboxes.new agenda.new stood.next) }
+    ensures comes { IfOk result (RunsOn V.behaviour V.settled routes.now from until component first
+        components.old.items inboxes.old agenda.old components.new.items inboxes.new agenda.new) }
+    ensures counted { IfOk result (CountsOn V.behaviour V.settled routes.now from until component
+        first components.old.items inboxes.old agenda.old tallies.old tallies.new) }
     ensures later { IfOk result (λ stood. from ≤ stood.last) }
     ensures in_time { IfOk result (λ stood. stood.last < until) }
     ensures short { IfOk result (λ stood. stood.next ≤ 10 ^ 15) }
     ensures all_sent { OnOk result (done.new.sends ≡ []) }
     ensures all_logged { OnOk result (done.new.lines ≡ []) }
 {
-    let ports = components[component as usize].device.ports();
+    let here = &mut components[component as usize];
+    let ports = here.device.ports();
     let waiting = soonest(inboxes, component, ports, LATEST);
     let limit = first_of(waiting, others_from(until, component, agenda));
     let mut last = from;
     let mut next = first;
     'ticks: while next < limit {
-        let here = &mut components[component as usize];
         let due = tick_alone(alloc, here, next, done)?;
         last = next;
         if !done.sends.is_empty() {
             agenda.set(component, Some(last));
-            post(component, last, &mut done.sends, routes, inboxes, agenda)?;
+            post(
+                component,
+                last,
+                &mut done.sends,
+                routes,
+                inboxes,
+                agenda,
+                tallies,
+            )?;
             next = soonest(inboxes, component, ports, late(due));
             return Ok(Stood { last, next });
         }
-        next = first_of(waiting, late(due));
+        next = sooner(waiting, due);
     }
     Ok(Stood { last, next })
 }
@@ -81,6 +94,7 @@ fn others_from(until: Time, component: u32, agenda: &Agenda) -> Time
 
 /// A moment of a component at which nothing arrives: its device ticks, and what it logs is logged. What it sends is
 /// left in `done`. It answers when the device is due next.
+#[inline(always)]
 fn tick_alone<V: Device>(
     alloc: Global,
     component: &mut Component<V>,
@@ -92,13 +106,13 @@ fn tick_alone<V: Device>(
     requires settled_then { V.settled component.old.device (t + 1) }
     requires nothing_sent { done.old.sends ≡ [] }
     requires nothing_logged { done.old.lines ≡ [] }
-    ensures device { OnOk result (component.new.device ≡ (V.behaviour.tick component.old.device t).state) }
-    ensures log { OnOk result (component.new.log ≡ component.old.log ++ logged_at t (V.behaviour.tick component.old.device t).lines) }
+    ensures device { OnOk result (HasTicked V.behaviour t component.old component.new) }
+    ensures log { OnOk result (HasLogged V.behaviour t component.old component.new) }
     ensures sends { OnOk result (done.new.sends ≡ (V.behaviour.tick component.old.device t).sends) }
     ensures all_logged { OnOk result (done.new.lines ≡ []) }
     ensures due { IfOk result (λ due. due ≡ V.behaviour.due component.new.device) }
 {
     component.device.tick(alloc, t, done)?;
-    log_all(t, &mut done.lines, &mut component.log)?;
+    log_lines(t, &mut done.lines, &mut component.log)?;
     Ok(component.device.due())
 }

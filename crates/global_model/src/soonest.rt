@@ -39,7 +39,8 @@ pub fn first_of(a: Time, b: Time) -> Time
     a.min(b)
 }
 
-fn sooner(time: Time, other: Option<Time>) -> Time
+/// The first of a time and of one that there may be.
+pub fn sooner(time: Time, other: Option<Time>) -> Time
     ensures { result ≡ sooner_of time other }
 {
     match other {

@@ -1,11 +1,12 @@
 //! Two beacons that are joined by a link.
-ghost use Rattle.std.specs.Prelude.{◌≡◌, ◌≤◌, ◌^◌, ◌∷◌, [], IfOk};
+ghost use Rattle.std.specs.Prelude.{◌≡◌, ◌≤◌, ◌^◌, ◌∷◌, [], All, map, IfOk};
 ghost use Rattle.cs_base.specs.declared.port_kind.PortKind.TheVariants.{Eth as Ethernet};
 ghost use Rattle.device_api.specs.Beacon.{IsSettledBeacon};
 
+use crate::soonest::first_of;
 use crate::{Global, simulate};
-use cs_base::{BeaconConfig, Items, Link, Mac, PortKind, Time, Via, Wiring};
-use device_api::{Beacon, Logs};
+use cs_base::{BeaconConfig, Items, Link, Mac, NoMemory, PortKind, Time, Via, Wiring};
+use device_api::{Beacon, Device, Logs, Outcome};
 use std::alloc;
 use std::test::Fail;
 
@@ -17,7 +18,7 @@ fn one_port(alloc: alloc::Global) -> Result<Items<PortKind>, Fail>
     Ok(kinds)
 }
 
-fn pair(alloc: alloc::Global, end: u64) -> Result<Wiring, Fail>
+fn pair(alloc: alloc::Global, end: u64, latency: u64, interval: u64) -> Result<Wiring, Fail>
     ensures { IfOk result (λ wiring. wiring.kinds ≡ (Ethernet ∷ []) ∷ ((Ethernet ∷ []) ∷ [])) }
 {
     let mut kinds = Items::new(alloc);
@@ -29,8 +30,8 @@ fn pair(alloc: alloc::Global, end: u64) -> Result<Wiring, Fail>
         a_port: 0,
         b: 1,
         b_port: 0,
-        latency: Time(500),
-        interval: Time(500),
+        latency: Time(latency),
+        interval: Time(interval),
         slots: 64,
         via: Via::Queue,
     })?;
@@ -52,17 +53,45 @@ fn beacon(alloc: alloc::Global, count: u32) -> Result<Beacon, Fail>
     Ok(Beacon::start(alloc, &config)?)
 }
 
-fn logs_of_pair(alloc: alloc::Global, end: u64, a: u32, b: u32) -> Result<Logs, Fail>
+fn run_pair(alloc: alloc::Global, wiring: &Wiring, a: u32, b: u32) -> Result<Outcome, Fail>
+    requires matches { wiring.now.kinds ≡ (Ethernet ∷ []) ∷ ((Ethernet ∷ []) ∷ []) }
     requires a_few { a ≤ 10 ^ 9 }
     requires b_few { b ≤ 10 ^ 9 }
 {
-    let wiring = pair(alloc, end)?;
     let a = beacon(alloc, a)?;
     let b = beacon(alloc, b)?;
     let mut devices = Vec::new(alloc);
     devices.push(a)?;
     devices.push(b)?;
-    Ok(simulate(alloc, devices, &wiring)?)
+    Ok(simulate(alloc, devices, wiring)?)
+}
+
+/// A run that stops on its way.
+fn simulate_in_parts<V: Device>(
+    alloc: alloc::Global,
+    devices: Vec<V>,
+    wiring: &Wiring,
+    middle: Time,
+) -> Result<Outcome, NoMemory>
+    requires matches { map V.behaviour.ports devices.items ≡ wiring.now.kinds }
+    requires at_start { All (λ device. V.settled device 0) devices.items }
+{
+    let mut run = Global::start(alloc, devices, wiring)?;
+    let middle = first_of(middle, wiring.end);
+    run.advance(alloc, middle)?;
+    run.advance(alloc, wiring.end)?;
+    run.into_outcome(alloc)
+}
+
+fn run_pair_in_parts(alloc: alloc::Global, wiring: &Wiring, middle: Time) -> Result<Outcome, Fail>
+    requires { wiring.now.kinds ≡ (Ethernet ∷ []) ∷ ((Ethernet ∷ []) ∷ []) }
+{
+    let a = beacon(alloc, 2)?;
+    let b = beacon(alloc, 0)?;
+    let mut devices = Vec::new(alloc);
+    devices.push(a)?;
+    devices.push(b)?;
+    Ok(simulate_in_parts(alloc, devices, wiring, middle)?)
 }
 
 fn assert_log(rt: &impl std::process::Abort, logs: &Logs, component: usize, lines: &[(u64, &str)]) {
@@ -86,17 +115,46 @@ fn assert_log(rt: &impl std::process::Abort, logs: &Logs, component: usize, line
 
 #[test]
 fn one_sends_and_the_other_receives(rt: HostRuntime) -> Result<(), Fail> {
-    let logs = logs_of_pair(rt.alloc(), 2600, 2, 0)?;
-    assert_log(&rt, &logs, 0, &[(1000, "tx 60"), (2000, "tx 60")]);
-    assert_log(&rt, &logs, 1, &[(1500, "rx 60"), (2500, "rx 60")]);
+    let wiring = pair(rt.alloc(), 2600, 500, 500)?;
+    let outcome = run_pair(rt.alloc(), &wiring, 2, 0)?;
+    assert_log(&rt, &outcome.logs, 0, &[(1000, "tx 60"), (2000, "tx 60")]);
+    assert_log(&rt, &outcome.logs, 1, &[(1500, "rx 60"), (2500, "rx 60")]);
     Ok(())
 }
 
 #[test]
 fn an_event_at_the_end_is_not_processed(rt: HostRuntime) -> Result<(), Fail> {
-    let logs = logs_of_pair(rt.alloc(), 2500, 2, 0)?;
-    assert_log(&rt, &logs, 0, &[(1000, "tx 60"), (2000, "tx 60")]);
-    assert_log(&rt, &logs, 1, &[(1500, "rx 60")]);
+    let wiring = pair(rt.alloc(), 2500, 500, 500)?;
+    let outcome = run_pair(rt.alloc(), &wiring, 2, 0)?;
+    assert_log(&rt, &outcome.logs, 0, &[(1000, "tx 60"), (2000, "tx 60")]);
+    assert_log(&rt, &outcome.logs, 1, &[(1500, "rx 60")]);
+    Ok(())
+}
+
+#[test]
+fn a_run_goes_on_from_where_it_stands(rt: HostRuntime) -> Result<(), Fail> {
+    let wiring = pair(rt.alloc(), 2600, 500, 500)?;
+    for middle in [0, 1000, 1500, 2600] {
+        let outcome = run_pair_in_parts(rt.alloc(), &wiring, Time(middle))?;
+        assert_log(&rt, &outcome.logs, 0, &[(1000, "tx 60"), (2000, "tx 60")]);
+        assert_log(&rt, &outcome.logs, 1, &[(1500, "rx 60"), (2500, "rx 60")]);
+    }
+    Ok(())
+}
+
+#[test]
+fn null_messages_are_counted(rt: HostRuntime) -> Result<(), Fail> {
+    // latency, interval, null messages where two frames are sent, and where none is
+    let cases = [(500, 500, 6, 6), (700, 300, 8, 9)];
+    for (latency, interval, beside, alone) in cases {
+        let wiring = pair(rt.alloc(), 2600, latency, interval)?;
+        let outcome = run_pair(rt.alloc(), &wiring, 2, 0)?;
+        let [there, back] = outcome.counts.as_slice() else {
+            return Ok(())
+        };
+        assert_eq!(rt; (there.syncs, there.sends), (beside, 2));
+        assert_eq!(rt; (back.syncs, back.sends), (alone, 0));
+    }
     Ok(())
 }
 

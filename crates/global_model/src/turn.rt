@@ -1,16 +1,16 @@
 ghost use Rattle.std.specs.Prelude.{length, ◌≡◌, ◌+◌, ◌++◌, ◌^◌, ◌<◌, [], IsSome, OnOk, IfOk};
-ghost use Rattle.cs_base.specs.Plan.{End};
-ghost use Rattle.device_api.specs.World.{followed_by, rest, take_all, arrivals, react, logged_at};
-ghost use Rattle.global_model.specs.Inboxes.{port_of, end_at, with_queue};
+ghost use Rattle.device_api.specs.World.{followed_by, rest, take_all, logged_at};
+ghost use Rattle.global_model.specs.Inboxes.{port_of, end_at};
 ghost use Rattle.global_model.specs.Reactions.{IsTaking, IsMoment};
 ghost use Rattle.device_api.specs.Behaviour.{IsNotPast};
-ghost use Rattle.global_model.specs.Step.{moment_in};
-ghost use Rattle.global_model.specs.Turn.{queue_at, from_time, so_far, take_queue, IsQueue, taken_before, inputs_of, AreQueues};
+ghost use Rattle.global_model.specs.Step.{moment_in, reaction_at};
+ghost use Rattle.global_model.specs.Turn.{so_far, take_waiting, arriving, IsQueueFor, AreQueuesFor, HasTaken, HaveTaken};
 
 use crate::inboxes::Inboxes;
+use cs_base::items::Items;
 use cs_base::no_memory::NoMemory;
 use cs_base::time::Time;
-use device_api::{Component, Device, Effects, log_all};
+use device_api::{Component, Device, Effects, Line, LineText, log_all};
 use moment_tree::Moment;
 use std::alloc::Global;
 
@@ -25,11 +25,14 @@ fn take_from_port<V: Device>(
 ) -> Result<(), NoMemory>
     requires in_run { moment.now.at < 10 ^ 15 }
     requires there { IsSome (port_of inboxes.old (end_at moment.now.component port)) }
-    requires waits { IsQueue (V.behaviour.ports device.old) port moment.now.at (queue_at inboxes.old (end_at moment.now.component port)) }
-    requires taking { IsTaking V.behaviour V.settled device.old moment.now.at (so_far device.old done.old) }
-    ensures reaction { OnOk result (so_far device.new done.new ≡ followed_by (so_far device.old done.old) (take_queue V.behaviour moment.now.at port (queue_at inboxes.old (end_at moment.now.component port)))) }
-    ensures left { OnOk result ((e : End) → port_of inboxes.new e ≡ with_queue (port_of inboxes.old) (end_at moment.now.component port) (from_time (moment.now.at + 1) (queue_at inboxes.old (end_at moment.now.component port))) e) }
-    ensures still_taking { OnOk result (IsTaking V.behaviour V.settled device.old moment.now.at (so_far device.new done.new)) }
+    requires waits { IsQueueFor (V.behaviour.ports device.old) port moment.now inboxes.old }
+    requires taking { IsTaking V.behaviour V.settled device.old moment.now.at
+        (so_far device.old done.old) }
+    ensures reaction { OnOk result (so_far device.new done.new ≡ followed_by
+        (so_far device.old done.old) (take_waiting V.behaviour moment.now port inboxes.old)) }
+    ensures left { OnOk result (HasTaken moment.now port inboxes.old inboxes.new) }
+    ensures still_taking { OnOk result (IsTaking V.behaviour V.settled device.old moment.now.at
+        (so_far device.new done.new)) }
 {
     'messages: while let Some(body) = inboxes.take_at(moment.component, port, moment.at) {
         device.take(alloc, moment.at, port, body, done)?;
@@ -46,13 +49,16 @@ fn take_arrivals<V: Device>(
     done: &mut Effects,
 ) -> Result<(), NoMemory>
     requires in_run { moment.now.at < 10 ^ 15 }
-    requires waits { AreQueues (V.behaviour.ports device.old) moment.now.component moment.now.at inboxes.old }
+    requires waits { AreQueuesFor (V.behaviour.ports device.old) moment.now inboxes.old }
     requires nothing_sent { done.old.sends ≡ [] }
     requires nothing_logged { done.old.lines ≡ [] }
     requires taking { IsTaking V.behaviour V.settled device.old moment.now.at (rest device.old) }
-    ensures reaction { OnOk result (so_far device.new done.new ≡ take_all V.behaviour moment.now.at (arrivals moment.now.at (inputs_of inboxes.old moment.now.component) (length (V.behaviour.ports device.old))) device.old) }
-    ensures left { OnOk result ((e : End) → port_of inboxes.new e ≡ taken_before (moment.now.at + 1) moment.now.component (length (V.behaviour.ports device.old)) (port_of inboxes.old) e) }
-    ensures still_taking { OnOk result (IsTaking V.behaviour V.settled device.old moment.now.at (so_far device.new done.new)) }
+    ensures reaction { OnOk result (so_far device.new done.new ≡ take_all V.behaviour moment.now.at
+        (arriving V.behaviour moment.now inboxes.old device.old) device.old) }
+    ensures left { OnOk result (HaveTaken moment.now (length (V.behaviour.ports device.old))
+        inboxes.old inboxes.new) }
+    ensures still_taking { OnOk result (IsTaking V.behaviour V.settled device.old moment.now.at
+        (so_far device.new done.new)) }
 {
     let ports = device.ports();
     for port in 0..ports {
@@ -71,14 +77,17 @@ fn react<V: Device>(
     done: &mut Effects,
 ) -> Result<Option<Time>, NoMemory>
     requires in_run { moment.now.at < 10 ^ 15 }
-    requires waits { AreQueues (V.behaviour.ports device.old) moment.now.component moment.now.at inboxes.old }
+    requires waits { AreQueuesFor (V.behaviour.ports device.old) moment.now inboxes.old }
     requires nothing_sent { done.old.sends ≡ [] }
     requires nothing_logged { done.old.lines ≡ [] }
     requires settled_then { V.settled device.old (moment.now.at + 1) }
     requires not_past { IsNotPast moment.now.at (V.behaviour.due device.old) }
-    ensures reaction { OnOk result (so_far device.new done.new ≡ react V.behaviour moment.now.at (arrivals moment.now.at (inputs_of inboxes.old moment.now.component) (length (V.behaviour.ports device.old))) device.old) }
-    ensures left { OnOk result ((e : End) → port_of inboxes.new e ≡ taken_before (moment.now.at + 1) moment.now.component (length (V.behaviour.ports device.old)) (port_of inboxes.old) e) }
-    ensures whole { OnOk result (IsMoment V.behaviour V.settled device.old moment.now.at (so_far device.new done.new)) }
+    ensures reaction { OnOk result (so_far device.new done.new ≡
+        moment_in V.behaviour moment.now.at moment.now.component inboxes.old device.old) }
+    ensures left { OnOk result (HaveTaken moment.now (length (V.behaviour.ports device.old))
+        inboxes.old inboxes.new) }
+    ensures whole { OnOk result (IsMoment V.behaviour V.settled device.old moment.now.at
+        (so_far device.new done.new)) }
     ensures due { IfOk result (λ due. due ≡ V.behaviour.due device.new) }
 {
     take_arrivals(alloc, device, moment, inboxes, done)?;
@@ -100,20 +109,41 @@ pub fn turn<V: Device>(
     done: &mut Effects,
 ) -> Result<Option<Time>, NoMemory>
     requires in_run { moment.now.at < 10 ^ 15 }
-    requires waits { AreQueues (V.behaviour.ports component.old.device) moment.now.component moment.now.at inboxes.old }
+    requires waits { AreQueuesFor (V.behaviour.ports component.old.device) moment.now inboxes.old }
     requires settled_then { V.settled component.old.device (moment.now.at + 1) }
     requires not_past { IsNotPast moment.now.at (V.behaviour.due component.old.device) }
     requires nothing_sent { done.old.sends ≡ [] }
     requires nothing_logged { done.old.lines ≡ [] }
-    ensures device { OnOk result (component.new.device ≡ (moment_in V.behaviour moment.now.at moment.now.component inboxes.old component.old.device).state) }
-    ensures log { OnOk result (component.new.log ≡ component.old.log ++ logged_at moment.now.at (moment_in V.behaviour moment.now.at moment.now.component inboxes.old component.old.device).lines) }
-    ensures sends { OnOk result (done.new.sends ≡ (moment_in V.behaviour moment.now.at moment.now.component inboxes.old component.old.device).sends) }
-    ensures left { OnOk result ((e : End) → port_of inboxes.new e ≡ taken_before (moment.now.at + 1) moment.now.component (length (V.behaviour.ports component.old.device)) (port_of inboxes.old) e) }
-    ensures whole { OnOk result (IsMoment V.behaviour V.settled component.old.device moment.now.at (moment_in V.behaviour moment.now.at moment.now.component inboxes.old component.old.device)) }
+    ensures device { OnOk result (component.new.device ≡
+        (reaction_at V.behaviour moment.now inboxes.old component.old).state) }
+    ensures log { OnOk result (component.new.log ≡ component.old.log ++ logged_at moment.now.at
+        (reaction_at V.behaviour moment.now inboxes.old component.old).lines) }
+    ensures sends { OnOk result (done.new.sends ≡
+        (reaction_at V.behaviour moment.now inboxes.old component.old).sends) }
+    ensures left { OnOk result (HaveTaken moment.now
+        (length (V.behaviour.ports component.old.device)) inboxes.old inboxes.new) }
+    ensures whole { OnOk result (IsMoment V.behaviour V.settled component.old.device moment.now.at
+        (reaction_at V.behaviour moment.now inboxes.old component.old)) }
     ensures all_logged { OnOk result (done.new.lines ≡ []) }
     ensures due { IfOk result (λ due. due ≡ V.behaviour.due component.new.device) }
 {
     let due = react(alloc, &mut component.device, moment, inboxes, done)?;
-    log_all(moment.at, &mut done.lines, &mut component.log)?;
+    log_lines(moment.at, &mut done.lines, &mut component.log)?;
     Ok(due)
+}
+
+/// Logs the lines of a time. Where there are none, as at most moments, it makes no call.
+#[inline(always)]
+pub fn log_lines(
+    t: Time,
+    lines: &mut Items<LineText>,
+    log: &mut Items<Line>,
+) -> Result<(), NoMemory>
+    ensures logged { OnOk result (log.new ≡ log.old ++ logged_at t lines.old) }
+    ensures emptied { OnOk result (lines.new ≡ []) }
+{
+    if lines.is_empty() {
+        return Ok(());
+    }
+    log_all(t, lines, log)
 }

@@ -1,5 +1,5 @@
 -- The due times of keys.
-use Rattle.std.specs.Prelude.{ℕ, suc, zero, ◌≡◌, ◌≢◌, ◌==◌, ◌+◌, ◌*◌, ◌-◌, ◌/◌, ◌%◌, ◌≤◌, ◌<◌, ◌⊎◌, Bool, true, false, if◌then◌else◌, min, List, Option, Some, None, map, length, get_or, drop, slice_get, slice_set, slice_index_or, option_map, [], ◌∷◌, refl, All, replicate}
+use Rattle.std.specs.Prelude.{ℕ, suc, zero, ◌≡◌, ◌≢◌, ◌==◌, ◌+◌, ◌*◌, ◌-◌, ◌/◌, ◌%◌, ◌≤◌, ◌<◌, Bool, true, false, min, List, Option, Some, None, map, length, get_or, drop, slice_get, slice_set, slice_index_or, option_map, [], ◌∷◌, refl, All, replicate}
 use Rattle.std.proofs.Common.{sym, ap, ◌∙◌, arith, subst, inl, inr, ⊎_elim, cond, get_or-set_same, get_or-set_other}
 use Rattle.std.proofs.lemmas.Bool.{cases_eq, cases_lt}
 use Rattle.std.proofs.lemmas.Bool.Decides.{nat_tests}
@@ -7,8 +7,8 @@ use Rattle.std.proofs.lemmas.List.{get_or-drop, length-drop, length-map, map-set
 use Rattle.std.proofs.lemmas.Option.{slice_get-map, slice_get_within, get_or_from_slice_get, slice_get-get_or}
 use Rattle.moment_tree.specs.Places.{clock}
 use Rattle.moment_tree.specs.Dues.{sooner, IsFirst, IsFirstBut, IsAlone}
-use Rattle.moment_tree.specs.Keys.{never, due_of, IsNode, IsOwn, IsTree}
-use Rattle.moment_tree.proofs.Ways.{AreNodes, IsPlaced, least, some_component's}
+use Rattle.moment_tree.specs.Keys.{never, due_of, IsOwn, IsAnother, IsTree}
+use Rattle.moment_tree.proofs.Ways.{AreNodes, IsFrom, least, some_component's}
 
 -- a key that has a time
 timed : (key u : ℕ) → due_of key ≡ Some u → (key / 64 ≡ u) × (key ≢ never)
@@ -58,12 +58,32 @@ in_order key t c other d u le t_is c_is u_is d_is = ⊎_elim (λ lt. (let past :
     now_is : (t c d : ℕ) → c ≤ d → clock t c d ≡ t
     now_is t c d le = grind (arith, nat_tests)
 
+-- the moment of a component's key is that component's
+key_there : (n : ℕ) (keys : List ℕ) → IsTree n keys → (key d t c : ℕ) → d < n → key ≡ get_or keys (n + d) 0 → due_of key ≡ Some t → c ≡ key % 64 → (slice_get (dues_of n keys) c ≡ Some (Some t)) × (d ≡ c)
+key_there n keys tree key d t c lt from due is =
+    let own : get_or keys (n + d) 0 % 64 ≡ d = owned (get_or keys (n + d) 0) d (tree.own d lt) (λ e. (timed key t due).1 (from ∙ e)) in
+    let same : d ≡ c = sym own ∙ ap (λ x. x % 64) (sym from) ∙ sym is in
+    (subst (λ x. slice_get (dues_of n keys) x ≡ Some (Some t)) same (read n keys tree.sized d lt ∙ ap (λ x. Some (due_of x)) (sym from) ∙ ap Some due), same)
+
 pub first_there : (n : ℕ) (keys : List ℕ) → IsTree n keys → (t c : ℕ) → due_of (get_or keys 1 0) ≡ Some t → c ≡ get_or keys 1 0 % 64 → slice_get (dues_of n keys) c ≡ Some (Some t)
 first_there n keys tree t c due is =
-    let some : (d : ℕ) × (d < n) × (get_or keys 1 0 ≡ get_or keys (n + d) 0) = some_component's n keys tree.nodes tree.some in
-    let own : get_or keys (n + some.0) 0 % 64 ≡ some.0 = owned (get_or keys (n + some.0) 0) some.0 (tree.own some.0 some.1) (λ e. (timed (get_or keys 1 0) t due).1 (some.2 ∙ e)) in
-    let same : some.0 ≡ c = sym own ∙ ap (λ x. x % 64) (sym some.2) ∙ sym is in
-    subst (λ x. slice_get (dues_of n keys) x ≡ Some (Some t)) same (read n keys tree.sized some.0 some.1 ∙ ap (λ x. Some (due_of x)) (sym some.2) ∙ ap Some due)
+    let some : IsFrom n keys 1 = some_component's n keys tree.nodes tree.some in
+    (key_there n keys tree (get_or keys 1 0) some.d t c some.within some.same due is).0
+
+pub another_there : (n : ℕ) (keys : List ℕ) → IsTree n keys → (own key t c : ℕ) → IsAnother n own keys key → due_of key ≡ Some t → c ≡ key % 64 → (slice_get (dues_of n keys) c ≡ Some (Some t)) × (c ≢ own)
+another_there n keys tree own key t c another due is = ⊎_elim (λ e. absurd ((timed key t due).1 e)) (λ found. at found.0 found.1 found.2 found.3) another
+  where
+    at : (d : ℕ) → d < n → d ≢ own → key ≡ get_or keys (n + d) 0 → (slice_get (dues_of n keys) c ≡ Some (Some t)) × (c ≢ own)
+    at d lt ne from =
+        let there : (slice_get (dues_of n keys) c ≡ Some (Some t)) × (d ≡ c) = key_there n keys tree key d t c lt from due is in
+        (there.0, λ e. ne (there.1 ∙ e))
+
+-- where `own` is no component, the root's key is another's
+pub root_another's : (n : ℕ) (keys : List ℕ) → IsTree n keys → (own key : ℕ) → n ≤ own → key ≡ get_or keys 1 0 → IsAnother n own keys key
+root_another's n keys tree own key past is =
+    let some : IsFrom n keys 1 = some_component's n keys tree.nodes tree.some in
+    let within : some.d < n = some.within in
+    inr (some.d, some.within, (λ e. omega arith), is ∙ some.same)
 
 -- a key at most that of component d comes before its moment
 before_it : (n : ℕ) (keys : List ℕ) → IsTree n keys → (key t c : ℕ) → due_of key ≡ Some t → c ≡ key % 64 → (d u : ℕ) → slice_get (dues_of n keys) d ≡ Some (Some u) → (d < n → key ≤ get_or keys (n + d) 0) → clock t c d ≤ u

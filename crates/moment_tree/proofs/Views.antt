@@ -1,12 +1,12 @@
 -- What an agenda's calls say, from the keys that they read.
-use Rattle.std.specs.Prelude.{ℕ, ◌≡◌, ◌≢◌, ◌+◌, ◌*◌, ◌%◌, ◌≤◌, ◌<◌, List, Option, Some, None, IfSome, IfNone, map, get_or, drop, slice_get, slice_set, slice_index_or, All, length, refl}
+use Rattle.std.specs.Prelude.{ℕ, ◌≡◌, ◌≢◌, ◌+◌, ◌*◌, ◌%◌, ◌≤◌, ◌<◌, List, Option, Some, None, IfSome, IfNone, map, get_or, drop, slice_get, slice_set, slice_index_or, All, length}
 use Rattle.std.proofs.Common.{sym, ap, ◌∙◌, arith, subst}
 use Rattle.std.proofs.lemmas.List.{get_or_default}
 use Rattle.moment_tree.specs.declared.agenda.Moment.{Moment}
 use Rattle.moment_tree.specs.Dues.{sooner, IsFirst, IsFirstBut, IsAlone}
-use Rattle.moment_tree.specs.Keys.{never, due_of, IsOwn, IsTree}
+use Rattle.moment_tree.specs.Keys.{never, due_of, IsOwn, IsAnother, IsTree}
 use Rattle.moment_tree.proofs.Ways.{least}
-use Rattle.moment_tree.proofs.Dues.{first_there, first_first, others_first, none_due, alone, placed_dues, noted_dues}
+use Rattle.moment_tree.proofs.Dues.{first_there, another_there, root_another's, first_first, others_first, none_due, alone, placed_dues, noted_dues}
 
 -- a moment, if there is one, is that of a key
 abbrev pub IsEntry : ℕ → Option Moment → Type 0
@@ -27,6 +27,17 @@ module _ (n : ℕ) (keys : List ℕ) (tree : IsTree n keys) (dues : List (Option
   pub root_none : (key : ℕ) → key ≡ get_or keys 1 key → (found : Option Moment) → IsEntry key found → IfNone found (All (λ (due : Option ℕ). due ≡ None) dues)
   root_none key is None entry = subst (All (λ (due : Option ℕ). due ≡ None)) view (none_due n keys tree (sym (root key is) ∙ entry.1))
   root_none key is (Some m) entry = tt
+
+  pub but_there : (own key : ℕ) → IsAnother n own keys key → (found : Option Moment) → IsEntry key found → IfSome found (λ m. slice_get dues m.component ≡ Some (Some m.at))
+  but_there own key another None entry = tt
+  but_there own key another (Some m) entry = subst (λ xs. slice_get xs m.component ≡ Some (Some m.at)) view (another_there n keys tree own key m.at m.component another entry.0.0 entry.0.1).0
+
+  pub but_other : (own key : ℕ) → IsAnother n own keys key → (found : Option Moment) → IsEntry key found → IfSome found (λ m. m.component ≢ own)
+  but_other own key another None entry = tt
+  but_other own key another (Some m) entry = (another_there n keys tree own key m.at m.component another entry.0.0 entry.0.1).1
+
+  pub root_another : (own key : ℕ) → n ≤ own → key ≡ get_or keys 1 key → IsAnother n own keys key
+  root_another own key past is = root_another's n keys tree own key past (root key is)
 
   pub but_first : (own key : ℕ) → ((d : ℕ) → d < n → d ≢ own → key ≤ get_or keys (n + d) 0) → (found : Option Moment) → IsEntry key found → IfSome found (λ m. IsFirstBut own m.at m.component dues)
   but_first own key low None entry = tt

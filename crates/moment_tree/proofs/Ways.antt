@@ -3,7 +3,7 @@ use Rattle.std.specs.Prelude.{ℕ, suc, zero, ◌≡◌, ◌≢◌, ◌+◌, ◌
 use Rattle.std.proofs.Common.{sym, ap, ◌∙◌, arith, subst, inl, inr, ⊎_elim, get_or-set_same, get_or-set_other}
 use Rattle.std.proofs.lemmas.Bool.{cases_eq, cases_lt}
 use Rattle.std.proofs.lemmas.List.{drop-set-lt}
-use Rattle.moment_tree.specs.Keys.{IsNode}
+use Rattle.moment_tree.specs.Keys.{never, IsNode, IsAnother}
 
 -- k places up from place i
 pub halved : ℕ → ℕ → ℕ
@@ -64,22 +64,35 @@ least n keys nodes i some lt =
     let way : (k : ℕ) × (halved k i ≡ 1) = to_root i i (omega arith) some in
     subst (λ p. get_or keys p 0 ≤ get_or keys i 0) way.1 (above n keys nodes way.0 i (let one : halved way.0 i ≡ 1 = way.1 in omega arith) lt)
 
--- and it is one component's, as each place's is
-some_from : (n : ℕ) (keys : List ℕ) → AreNodes n keys → (fuel j : ℕ) → 2 * n ≤ j + fuel → 1 ≤ j → j < 2 * n → (d : ℕ) × (d < n) × (get_or keys j 0 ≡ get_or keys (n + d) 0)
+-- and it is one component's, as each place's is: component d's, which is below it
+pub record IsFrom (n : ℕ) (keys : List ℕ) (j : ℕ) : Type 0 where
+  pub d : ℕ
+  pub within : d < n
+  pub same : get_or keys j 0 ≡ get_or keys (n + d) 0
+  pub up : ℕ
+  pub way : halved up (n + d) ≡ j
+
+some_from : (n : ℕ) (keys : List ℕ) → AreNodes n keys → (fuel j : ℕ) → 2 * n ≤ j + fuel → 1 ≤ j → j < 2 * n → IsFrom n keys j
+unfolding halved
 some_from n keys nodes zero j enough some lt = absurd (omega arith)
 some_from n keys nodes (suc fuel) j enough some lt = ⊎_elim (λ below. inner below (λ i more within. some_from n keys nodes fuel i (omega arith) (omega arith) within)) leaf (cases_lt j n)
   where
-    leaf : n ≤ j → (d : ℕ) × (d < n) × (get_or keys j 0 ≡ get_or keys (n + d) 0)
-    leaf le = let there : j ≡ n + (j - n) = omega arith in (j - n, omega arith, ap (λ i. get_or keys i 0) there)
+    leaf : n ≤ j → IsFrom n keys j
+    leaf le =
+        let there : j ≡ n + (j - n) = omega arith in
+        record { d = j - n; within = omega arith; same = ap (λ i. get_or keys i 0) there; up = zero; way = sym there }
 
-    then_more : (i : ℕ) → get_or keys j 0 ≡ get_or keys i 0 → (d : ℕ) × (d < n) × (get_or keys i 0 ≡ get_or keys (n + d) 0) → (d : ℕ) × (d < n) × (get_or keys j 0 ≡ get_or keys (n + d) 0)
-    then_more i is found = (found.0, found.1, is ∙ found.2)
+    then_more : (i : ℕ) → i / 2 ≡ j → get_or keys j 0 ≡ get_or keys i 0 → IsFrom n keys i → IsFrom n keys j
+    then_more i half is found = record { d = found.d; within = found.within; same = is ∙ found.same; up = suc found.up; way = ap (λ x. x / 2) found.way ∙ half }
 
-    inner : j < n → ((i : ℕ) → j < i → i < 2 * n → (d : ℕ) × (d < n) × (get_or keys i 0 ≡ get_or keys (n + d) 0)) → (d : ℕ) × (d < n) × (get_or keys j 0 ≡ get_or keys (n + d) 0)
-    inner below next = ⊎_elim (λ e. then_more (2 * j) e (next (2 * j) (omega arith) (omega arith))) (λ e. then_more (2 * j + 1) e (next (2 * j + 1) (omega arith) (omega arith))) (min_of (get_or keys j 0) (get_or keys (2 * j) 0) (get_or keys (2 * j + 1) 0) (nodes j some below))
+    inner : j < n → ((i : ℕ) → j < i → i < 2 * n → IsFrom n keys i) → IsFrom n keys j
+    inner below next = ⊎_elim (λ e. then_more (2 * j) (omega arith) e (next (2 * j) (omega arith) (omega arith))) (λ e. then_more (2 * j + 1) (omega arith) e (next (2 * j + 1) (omega arith) (omega arith))) (min_of (get_or keys j 0) (get_or keys (2 * j) 0) (get_or keys (2 * j + 1) 0) (nodes j some below))
 
-pub some_component's : (n : ℕ) (keys : List ℕ) → AreNodes n keys → 1 ≤ n → (d : ℕ) × (d < n) × (get_or keys 1 0 ≡ get_or keys (n + d) 0)
-some_component's n keys nodes some = some_from n keys nodes (2 * n) 1 (omega arith) (omega arith) (omega arith)
+pub each_place's : (n : ℕ) (keys : List ℕ) → AreNodes n keys → (j : ℕ) → 1 ≤ j → j < 2 * n → IsFrom n keys j
+each_place's n keys nodes j some lt = some_from n keys nodes (2 * n) j (omega arith) some lt
+
+pub some_component's : (n : ℕ) (keys : List ℕ) → AreNodes n keys → 1 ≤ n → IsFrom n keys 1
+some_component's n keys nodes some = each_place's n keys nodes 1 (omega arith) (omega arith)
 
 -- ONE KEY PUT IN
 
@@ -152,23 +165,55 @@ placed_all n c key keys0 keys node best placed over = λ j some below. placed.no
 
 -- ALL BUT ONE
 
--- a key is at most those of the components below a place, but for one
+-- further up a place is lower
+higher : (k l i : ℕ) → k < l → halved l i ≤ halved k i / 2
+unfolding halved
+higher k zero i lt = absurd (omega arith)
+higher k (suc l) i lt = ⊎_elim same (λ ne. (let le : halved l i ≤ halved k i / 2 = higher k l i (omega arith) in omega arith)) (cases_eq k l)
+  where
+    same : k ≡ l → halved l i / 2 ≤ halved k i / 2
+    same e = let is : halved k i ≡ halved l i = ap (λ m. halved m i) e in omega arith
+
+-- of a place and the one beside it no component is below both
+apart : (k l i p q : ℕ) → halved k i ≡ p → halved l i ≡ q → 2 ≤ p → q + p ≡ 4 * (p / 2) + 1 → ⊥
+apart k l i p q at beside some is = ⊎_elim (λ lt. (let le : halved l i ≤ halved k i / 2 = higher k l i lt in omega arith)) (λ ge. ⊎_elim level (λ ne. (let le : halved k i ≤ halved l i / 2 = higher l k i (omega arith) in omega arith)) (cases_eq k l)) (cases_lt k l)
+  where
+    level : k ≡ l → ⊥
+    level e = let same : halved k i ≡ halved l i = ap (λ m. halved m i) e in omega arith
+
+-- a key is the least of those of the components below a place, but for one
 pub record IsLeastBelow (n : ℕ) (keys : List ℕ) (c node best : ℕ) : Type 0 where
   pub some : 1 ≤ node
   pub within : node < 2 * n
   pub bound : (i k : ℕ) → n ≤ i → i < 2 * n → i ≢ n + c → halved k i ≡ node → best ≤ get_or keys i 0
+  pub up : ℕ
+  pub way : halved up (n + c) ≡ node
+  pub another : IsAnother n c keys best
 
-pub least_start : (n : ℕ) (keys : List ℕ) (c best : ℕ) → 1 ≤ n → c < n → IsLeastBelow n keys c (n + c) best
+pub least_start : (n : ℕ) (keys : List ℕ) (c best : ℕ) → 1 ≤ n → c < n → best ≡ never → IsLeastBelow n keys c (n + c) best
 unfolding halved
-least_start n keys c best some lt = record { some = omega arith; within = omega arith; bound = λ i k low high other is. absurd (none i k low high other is) }
+least_start n keys c best some lt is_never = record { some = omega arith; within = omega arith; bound = λ i k low high other is. absurd (none i k low high other is); up = zero; way = refl; another = inl is_never }
   where
     none : (i k : ℕ) → n ≤ i → i < 2 * n → i ≢ n + c → halved k i ≡ n + c → ⊥
     none i zero low high other is = other is
     none i (suc k) low high other is = let le : halved k i ≤ i = halved_le k i in omega arith
 
+-- the key of a place beside one above component c is another's
+from_beside : (n : ℕ) (keys : List ℕ) (c node other : ℕ) → AreNodes n keys → (up : ℕ) → halved up (n + c) ≡ node → 2 ≤ node → node < 2 * n → other + node ≡ 4 * (node / 2) + 1 → IsAnother n c keys (get_or keys other 0)
+from_beside n keys c node other nodes up way more lt is =
+    let found : IsFrom n keys other = each_place's n keys nodes other (omega arith) (omega arith) in
+    inr (found.d, found.within, (λ e. apart up found.up (n + c) node other way (subst (λ d. halved found.up (n + d) ≡ other) e found.way) more is), found.same)
+
 pub least_more : (n : ℕ) (keys : List ℕ) (c node best other best' : ℕ) → AreNodes n keys → IsLeastBelow n keys c node best → 2 ≤ node → other + node ≡ 4 * (node / 2) + 1 → best' ≡ min best (get_or keys other 0) → IsLeastBelow n keys c (node / 2) best'
 unfolding halved
-least_more n keys c node best other best' nodes before more is best_is = record { some = omega arith; within = (let lt : node < 2 * n = before.within in omega arith); bound = bound }
+least_more n keys c node best other best' nodes before more is best_is = record {
+  some = omega arith;
+  within = (let lt : node < 2 * n = before.within in omega arith);
+  bound = bound;
+  up = suc before.up;
+  way = ap (λ x. x / 2) before.way;
+  another = ⊎_elim (λ e. subst (IsAnother n c keys) (sym e) before.another) (λ e. subst (IsAnother n c keys) (sym e) (from_beside n keys c node other nodes before.up before.way more before.within is)) (min_of best' best (get_or keys other 0) best_is);
+}
   where
     bound : (i k : ℕ) → n ≤ i → i < 2 * n → i ≢ n + c → halved k i ≡ node / 2 → best' ≤ get_or keys i 0
     bound i zero low high off at = let lt : node < 2 * n = before.within in absurd (omega arith)

@@ -1,5 +1,5 @@
 -- The tree behind an agenda: a list of keys, of which the places from n on are the components'.
-use Rattle.std.specs.Prelude.{ℕ, ◌≡◌, ◌==◌, ◌+◌, ◌*◌, ◌/◌, ◌%◌, ◌≤◌, ◌<◌, ◌⊎◌, min, if◌then◌else◌, List, Option, Some, None, length, get_or}
+use Rattle.std.specs.Prelude.{ℕ, ◌≡◌, ◌≢◌, ◌==◌, ◌+◌, ◌*◌, ◌/◌, ◌%◌, ◌≤◌, ◌<◌, ◌⊎◌, min, if◌then◌else◌, List, Option, Some, None, length, get_or}
 
 -- the key of no moment
 abbrev pub never : ℕ
@@ -16,6 +16,10 @@ IsNode keys j = get_or keys j 0 ≡ min (get_or keys (2 * j) 0) (get_or keys (2 
 -- the key of component d is no moment's, or less, and names d
 abbrev pub IsOwn : ℕ → ℕ → Type 0
 IsOwn key d = (key ≡ never) ⊎ ((key % 64 ≡ d) × (key < never))
+
+-- a key is no moment's, or that of a component other than `own`
+abbrev pub IsAnother : ℕ → ℕ → List ℕ → ℕ → Type 0
+IsAnother n own keys key = (key ≡ never) ⊎ ((d : ℕ) × (d < n) × (d ≢ own) × (key ≡ get_or keys (n + d) 0))
 
 pub record IsTree (n : ℕ) (keys : List ℕ) : Type 0 where
   pub some : 1 ≤ n

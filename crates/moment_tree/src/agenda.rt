@@ -1,4 +1,4 @@
-ghost use Rattle.std.specs.Prelude.{◌≡◌, ◌≤◌, ◌%◌, All, ◌<◌, ◌^◌, Some, None, IfOk, IfSome, IfNone, replicate, slice_get, slice_set, slice_index_or};
+ghost use Rattle.std.specs.Prelude.{◌≡◌, ◌≢◌, ◌≤◌, ◌%◌, All, ◌<◌, ◌^◌, Some, None, IfOk, IfSome, IfNone, replicate, slice_get, slice_set, slice_index_or};
 ghost use Rattle.moment_tree.specs.Dues.{sooner, IsFirst, IsFirstBut, IsAlone};
 ghost use Rattle.moment_tree.specs.Keys.{never, due_of};
 
@@ -80,8 +80,10 @@ impl Agenda {
         entry(self.keys[1])
     }
 
-    /// A moment that none of the other components' comes before.
+    /// The first moment of the other components.
     pub fn first_but(&self, component: u32) -> Option<Moment>
+        ensures there { IfSome result (λ m. slice_get self.now m.component ≡ Some (Some m.at)) }
+        ensures other { IfSome result (λ m. m.component ≢ component) }
         ensures first { IfSome result (λ m. IsFirstBut component m.at m.component self.now) }
         ensures none { IfNone result (IsAlone component self.now) }
     {

@@ -1,5 +1,5 @@
 ghost use Rattle.std.specs.Prelude.{◌≡◌, ◌≢◌, ◌+◌, ◌*◌, ◌/◌, ◌≤◌, ◌<◌, ◌^◌, ℕ, length, drop, get_or, slice_set, IfSome};
-ghost use Rattle.moment_tree.specs.Keys.{due_of, IsNode, IsOwn};
+ghost use Rattle.moment_tree.specs.Keys.{due_of, IsNode, IsOwn, IsAnother};
 
 use cs_base::time::Time;
 
@@ -39,13 +39,14 @@ pub fn place(keys: &mut [u64], components: usize, component: usize, key: u64)
     }
 }
 
-/// A key that none of the other components' is below.
+/// The least key of the other components, or `NEVER` where there is none.
 pub fn least_beside(keys: &[u64], components: usize, component: usize) -> u64
     requires sized { length keys.now ≡ 2 * components }
     requires few { components ≤ 64 }
     requires within { component < components }
     requires nodes { (j : ℕ) → 1 ≤ j → j < components → IsNode keys.now j }
-    ensures { (d : ℕ) → d < components → d ≢ component → result ≤ get_or keys.now (components + d) 0 }
+    ensures low { (d : ℕ) → d < components → d ≢ component → result ≤ get_or keys.now (components + d) 0 }
+    ensures another { IsAnother components component keys.now result }
 {
     let mut node = components + component;
     let mut least = NEVER;

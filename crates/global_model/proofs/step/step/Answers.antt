@@ -1,5 +1,7 @@
 use Rattle.std.proofs.Common.{◌≡◌, ◌+◌, ◌<◌, length, sym, subst, ap, ◌∙◌}
-use Rattle.std.specs.Prelude.{All, ℕ, slice_set}
+use Rattle.std.specs.Prelude.{All, ℕ, slice_get, slice_set}
+use Rattle.device_api.specs.declared.component.Component.{Component}
+use Rattle.global_model.specs.Tally.{counted_on}
 use Rattle.sb_message.specs.declared.message.Body.{Body}
 use Rattle.sb_message.specs.Receivable.{MaySend}
 use Rattle.device_api.specs.Behaviour.{SendsAndLines}
@@ -40,3 +42,13 @@ returns-clause-stepped g c = λ other is.
     let same = same_read c.args.components.now.items c.args.moment.now.component other component is c.index_mut-component.ensures.value in
     subst (λ x. HasStepped b g.V.Device.settled c.args.moment.now.at c.args.moment.now.component c.args.routes.now x c.args.components.now.items c.args.inboxes.now c.args.agenda.now (slice_set c.args.components.now.items c.args.moment.now.component c.turn.new.component) c.post.new.inboxes c.post.new.agenda c.soonest-next.result) same
     (stepped c.args.moment.now.at c.args.moment.now.component c.args.routes.now component c.args.components.now.items c.args.inboxes.now c.args.agenda.now c.turn.new.component c.done.inside.sends c.turn.new.inboxes c.post.new.inboxes c.late-last.result c.soonest-next.result c.post.new.agenda turned.device turned.log sent turned.left turned.whole c.in_ok-post.ensures.arrives c.in_ok-post.ensures.noted (c.late-last.ensures ∙ ap late_of turned.due) (subst (λ n. IsSoonest c.late-last.result n (inputs_of c.post.new.inboxes c.args.moment.now.component) c.soonest-next.result) c.ports-ports.ensures c.soonest-next.ensures))
+
+pub returns-clause-counted : goal.returns-clause-counted
+returns-clause-counted g c = λ other is k.
+    let b = g.V.Device.behaviour in
+    let component = c.index_mut-component.result.now in
+    let sent : c.done.inside.sends ≡ (moment_in b c.args.moment.now.at c.args.moment.now.component c.args.inboxes.now component.device).sends = ap (λ (x : SendsAndLines). x.sends) c.done.view_is ∙ c.in_ok-due.ensures.sends in
+    let same = same_read c.args.components.now.items c.args.moment.now.component other component is c.index_mut-component.ensures.value in
+    c.in_ok-post.ensures.counted k
+    ∙ ap (λ sends. counted_on k c.args.routes.now c.args.moment.now.component c.args.moment.now.at sends (slice_get c.args.tallies.now k)) sent
+    ∙ ap (λ (x : Component g.row.V.Denot). counted_on k c.args.routes.now c.args.moment.now.component c.args.moment.now.at (moment_in b c.args.moment.now.at c.args.moment.now.component c.args.inboxes.now x.device).sends (slice_get c.args.tallies.now k)) same

@@ -1,5 +1,3 @@
-use Rattle.std.proofs.Common.{◌≡◌, ◌*◌, replicate}
-use Rattle.moment_tree.specs.Keys.{never}
 use Rattle.moment_tree.proofs.Dues.{start_dues}
 use Rattle.moment_tree.proofs.agenda.Agenda.new.Goals as goal
 

@@ -1,4 +1,4 @@
-use Rattle.std.proofs.Common.{arith, ◌≡◌, ◌<◌, subst, sym, ap, ◌∙◌, map, drop, ◌+◌, List, ℕ, length, Some, None, get_or}
+use Rattle.std.proofs.Common.{arith, ◌≡◌, ◌<◌, subst, sym, ap, ◌∙◌, map, drop, ◌+◌, Some, None, get_or}
 use Rattle.std.specs.Vec.{with_items}
 use Rattle.std.specs.Prelude.{slice_set, slice_index_or}
 use Rattle.std.proofs.lemmas.List.{with_items_is, get_or_default}

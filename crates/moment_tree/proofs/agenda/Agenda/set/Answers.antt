@@ -1,4 +1,4 @@
-use Rattle.std.proofs.Common.{◌≡◌, subst, sym, ap, ◌∙◌, map, drop, ◌+◌, List, ℕ, length}
+use Rattle.std.proofs.Common.{◌≡◌, subst, sym, ap, ◌∙◌, map, drop}
 use Rattle.std.specs.Vec.{with_items}
 use Rattle.std.specs.Prelude.{slice_set}
 use Rattle.std.proofs.lemmas.List.{with_items_is}
