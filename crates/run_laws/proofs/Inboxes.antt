@@ -44,7 +44,7 @@ unfolding RisesFrom AreAhead
 ahead_from_head position port low i [] rises head = tt
 ahead_from_head position port low i (m ∷ more) rises head = (head m more refl, ahead_all position port m.at i (suc i) more (head m more refl) (omega arith) (rises_above m.at more rises.1))
 
-rises-back : (low : ℕ) (xs ys : List Msg) → RisesFrom low (xs ++ ys) → RisesFrom (bound_from low xs) ys
+pub rises-back : (low : ℕ) (xs ys : List Msg) → RisesFrom low (xs ++ ys) → RisesFrom (bound_from low xs) ys
 unfolding RisesFrom bound_from
 rises-back low [] ys rises = rises
 rises-back low (x ∷ xs) ys rises = rises-back x.at xs ys rises.1

@@ -9,7 +9,7 @@ part_less x y f lt = or_left (ltb x y) (eqb x y && f) (lt-ltb x y lt)
 pub part_same : (x y : ℕ) (f : Bool) → x ≡ y → f ≡ true → by_part x y f ≡ true
 part_same x y f e following = or_right (ltb x y) (eqb x y && f) (and_from (eqb x y) f (eq-eqb x y e) following)
 
-part_cases : (x y : ℕ) (f : Bool) → by_part x y f ≡ true → (x < y) ⊎ ((x ≡ y) × (f ≡ true))
+pub part_cases : (x y : ℕ) (f : Bool) → by_part x y f ≡ true → (x < y) ⊎ ((x ≡ y) × (f ≡ true))
 part_cases x y f h = ⊎_elim (λ less. inl (ltb-true x y less)) (λ both. let parts : (eqb x y ≡ true) × (f ≡ true) = and_parts (eqb x y) f both in inr (eqb-true x y parts.0, parts.1)) (or_cases (ltb x y) (eqb x y && f) h)
 
 -- one part of three keys

@@ -18,5 +18,6 @@ pub mod Inboxes
 pub mod Steps
 pub mod ScriptSteps
 pub mod Grown
+pub mod Wholes
 pub mod Beacons
 pub mod Numbered

@@ -8,7 +8,8 @@ use Rattle.device_api.specs.World.{Network, Run, Sent, arrivals_on, sends_by}
 use Rattle.device_api.specs.Transcript.{stamped, script, transcript, bodies, bound_of}
 use Rattle.run_laws.specs.Wired.{IsWired, SendsEvents, IsChannel}
 use Rattle.run_laws.specs.LocalRuns.{AreLocalRuns, IsDelivered}
-use Rattle.run_laws.specs.GlobalMessages.{messages_by, messages_on, global_sent, global_received}
+use Rattle.device_api.specs.GlobalCounts.{messages_by}
+use Rattle.run_laws.specs.GlobalMessages.{messages_on, global_sent, global_received}
 use Rattle.run_laws.proofs.Channels.{IsJoinedChannel, channel_joined, sender_of, out_is, in_is}
 use Rattle.run_laws.proofs.Growth.{Grows, bodies-transcript, arrivals_of_past}
 use Rattle.run_laws.proofs.Timestamps.{IsAhead, script_ahead}

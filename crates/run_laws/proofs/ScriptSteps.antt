@@ -38,11 +38,11 @@ module _ (kind : PortKind) (ch : Channel) (position : Position) (part : ℕ → 
   script_stays v zero le missed = ap so_far (let same : v + zero ≡ v = omega arith in same)
   script_stays v (suc n) le missed = ap so_far (let same : v + suc n ≡ suc (v + n) = omega arith in same) ∙ ap (with_messages ch (v + n) (so_far (v + n))) (ap₂ ◌++◌ (cond-false (is_reached position (sync_key (v + n) ch.from.port)) (sync_if_due ch (v + n) (so_far (v + n)).sync_due) [] (missed (v + n) (omega arith))) (ap (stamped_after ch (sends_before (v + n) (part end))) (at_is part grows (v + n) end (omega arith) ∙ made_none (v + n) (missed (v + n) (omega arith))))) ∙ with_none ch (v + n) (so_far (v + n)) ∙ script_stays v n (omega arith) missed
 
-  stays_until_end : (v : ℕ) → v ≤ end → ((u : ℕ) → v ≤ u → is_reached position (sync_key u ch.from.port) ≡ false) → so_far end ≡ so_far v
+  pub stays_until_end : (v : ℕ) → v ≤ end → ((u : ℕ) → v ≤ u → is_reached position (sync_key u ch.from.port) ≡ false) → so_far end ≡ so_far v
   stays_until_end v le missed = ap so_far (let whole : end ≡ v + (end - v) = omega arith in whole) ∙ script_stays v (end - v) (omega arith) missed
 
   -- once a null message is missed all that comes later is
-  missed_from : (v : ℕ) → is_reached position (sync_key v ch.from.port) ≡ false → (u : ℕ) → v ≤ u → is_reached position (sync_key u ch.from.port) ≡ false
+  pub missed_from : (v : ℕ) → is_reached position (sync_key v ch.from.port) ≡ false → (u : ℕ) → v ≤ u → is_reached position (sync_key u ch.from.port) ≡ false
   missed_from v missed u le = at (eq-or-lt_of_le le)
     where
       at : (v ≡ u) ⊎ (v < u) → is_reached position (sync_key u ch.from.port) ≡ false

@@ -36,7 +36,7 @@ module _ {S : Type 0} (b : Behaviour S) (ports : ℕ) (inputs : ℕ → List Msg
       so_far : Run S
       so_far = local_upto b ports inputs s position (v + n)
 
-  stays_until : (position : Position) (v end : ℕ) → v ≤ end → ((u : ℕ) → v ≤ u → is_reached position (sync_key u 0) ≡ false) → local_upto b ports inputs s position end ≡ local_upto b ports inputs s position v
+  pub stays_until : (position : Position) (v end : ℕ) → v ≤ end → ((u : ℕ) → v ≤ u → is_reached position (sync_key u 0) ≡ false) → local_upto b ports inputs s position end ≡ local_upto b ports inputs s position v
   stays_until position v end le missed = ap (local_upto b ports inputs s position) (let whole : end ≡ v + (end - v) = omega arith in whole) ∙ stays position v (end - v) missed
 
   module _ (position : Position) (last : Key) (end : ℕ) (later : is_reached position last ≡ false) (within : last.time < end) (not_past : IsNotPast last.time (b.due (local_upto b ports inputs s position end).state)) (agree : (u : ℕ) → u < last.time → arrivals_upto (Some last) u (arrivals u inputs ports) ≡ arrivals_upto position u (arrivals u inputs ports)) where

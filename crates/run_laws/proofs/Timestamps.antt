@@ -126,6 +126,23 @@ script_ahead kind ch sends (suc u) least most = step (script_ahead kind ch sends
     step : IsAhead u so_far → IsAhead (suc u) (record { messages = so_far.messages ++ new; sync_due = due_after ch u so_far.sync_due new })
     step before = let more : (suc u ≤ due_after ch u so_far.sync_due new) × (due_after ch u so_far.sync_due new ≤ bound_from (bound_of so_far.messages) new) = ahead_more ch u (bound_of so_far.messages) so_far.sync_due new least most before.bound level (some_due (eqb so_far.sync_due u) refl before.timer) in record { timer = more.0; bound = subst (λ b. due_after ch u so_far.sync_due new ≤ b) (sym (bound-append 0 so_far.messages new)) more.1 }
 
+-- the timer of a transcript up to a position isn't after its last timestamp
+within_more : (ch : Channel) (u bound due : ℕ) (new : List Msg) → ch.interval ≤ ch.latency → due ≤ bound → AreAt (u + ch.latency) new → due_after ch u due new ≤ bound_from bound new
+unfolding bound_from
+within_more ch u bound due [] most within level = within
+within_more ch u bound due (m ∷ more) most within level = (let same : bound_from m.at more ≡ u + ch.latency = ap (λ low. bound_from low more) level.0 ∙ level_bound (u + ch.latency) more level.1 in omega arith)
+
+pub timer_within : (kind : PortKind) (ch : Channel) (sends : List Sent) (position : Position) (u : ℕ) → ch.interval ≤ ch.latency → (script_upto kind ch sends position u).sync_due ≤ bound_of (script_upto kind ch sends position u).messages
+unfolding script_upto bound_from
+timer_within kind ch sends position zero most = le_refl 0
+timer_within kind ch sends position (suc u) most = subst (λ bound. due_after ch u so_far.sync_due new ≤ bound) (sym (bound-append 0 so_far.messages new)) (within_more ch u (bound_of so_far.messages) so_far.sync_due new most (timer_within kind ch sends position u most) (each-append (λ m. m.at ≡ u + ch.latency) (sync_upto ch position u so_far.sync_due) _ (sync_upto_at ch position u so_far.sync_due) (stamps_at ch u (sends_before u sends) sends)))
+  where
+    so_far : Script
+    so_far = script_upto kind ch sends position u
+
+    new : List Msg
+    new = sync_upto ch position u so_far.sync_due ++ stamped_after ch (sends_before u sends) (sends_at u sends)
+
 -- no timestamp is after the last
 pub within_bound : (low : ℕ) (xs : List Msg) → RisesFrom low xs → AllByRecursion (λ m. m.at ≤ bound_from low xs) xs × (low ≤ bound_from low xs)
 unfolding RisesFrom bound_from

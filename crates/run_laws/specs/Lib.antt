@@ -5,3 +5,4 @@ pub mod Upto
 pub mod ByChannel
 pub mod NextEvent
 pub mod TwoBeacons
+pub mod Whole

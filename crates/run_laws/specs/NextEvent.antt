@@ -84,3 +84,8 @@ pub record ComesAfter (position : Position) (inputs : ℕ → List Msg) (port : 
   pub rises : bound_of (inputs port) ≤ m.at
   -- it is after the position
   pub ahead : is_reached position (message_key m.at port (length (inputs port))) ≡ false
+
+-- nothing is left for a component before the end: what waits is not before it, and the device is not due before it
+pub record IsNothingLeft {S : Type 0} (b : Behaviour S) (ports : ℕ) (inbox : ℕ → List Msg) (state : S) (end : ℕ) : Type 0 where
+  pub messages : (port : ℕ) → port < ports → (m : Msg) (more : List Msg) → inbox port ≡ m ∷ more → end ≤ m.at
+  pub tick : IsNotPast end (b.due state)

@@ -9,3 +9,4 @@ pub mod lift;
 pub mod one_event;
 pub mod prefix;
 pub mod rising;
+pub mod whole;

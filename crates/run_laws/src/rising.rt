@@ -5,6 +5,7 @@ ghost use Rattle.device_api.specs.Channels.{Channel};
 ghost use Rattle.device_api.specs.World.{Sent};
 ghost use Rattle.device_api.specs.Transcript.{RisesFrom, transcript, bodies, bound_of};
 ghost use Rattle.device_api.specs.Position.{Position, transcript_upto};
+ghost use Rattle.run_laws.specs.Whole.{TimersAreWithin};
 
 /// The timestamps of a transcript never fall, nor do those of its events.
 pub fn timestamps_never_fall()
@@ -18,4 +19,10 @@ pub fn timestamps_never_fall()
 pub fn a_transcript_reaches_its_end()
     ensures { (kind : PortKind) (ch : Channel) (sends : List Sent) (end : ℕ) → 1 ≤ ch.interval → ch.interval ≤ ch.latency
         → end ≤ bound_of (transcript kind ch sends end) }
+{}
+
+/// A port's next null message is due no later than the last timestamp that it has sent: whoever has heard all of it
+/// has heard as far as that.
+pub fn a_timer_is_within_what_was_said()
+    ensures { TimersAreWithin }
 {}
