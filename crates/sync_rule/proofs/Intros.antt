@@ -1,5 +1,5 @@
 -- An introduction is the one that is expected where its fields are; and what was heard first.
-use Rattle.std.proofs.Common.{◌≡◌, ℕ, Bool, true, false, not, IsTrue, ◌↔◌, List, ◌++◌, refl, sym, ap, ap₂, ◌∙◌, subst}
+use Rattle.std.proofs.Common.{◌≡◌, ℕ, Bool, true, false, not, IsTrue, ◌↔◌, List, ◌++◌, refl, sym, ap, ap₂, ◌∙◌}
 use Rattle.std.proofs.lemmas.Bool.{false≢true}
 use mathlib.Core.HLevel.{is_prop→PathP}
 use native.Mathlib.Nat.{ℕ_set}
@@ -12,7 +12,7 @@ use Rattle.sb_message.specs.declared.message.Body.TheVariants as body
 use Rattle.sb_message.specs.declared.message.Msg.{Msg}
 use Rattle.sync_rule.specs.declared.port_plan.PortPlan.{PortPlan}
 use Rattle.sync_rule.specs.Ports.{In, introduction_to, waiting_of, heard}
-use Rattle.sync_rule.specs.OnePort.{SameFields, IsWrong, Judged}
+use Rattle.sync_rule.specs.OnePort.{SameFields, Judged}
 
 same_intro : (a b : Intro) → SameFields a b → a ≡ b
 same_intro a b same =

@@ -1,5 +1,5 @@
 -- The order of what is pending.
-use Rattle.std.proofs.Common.{◌≡◌, ℕ, ◌+◌, ◌<◌, ◌≤◌, ◌⊎◌, inl, inr, Bool, true, false, ◌&&◌, eqb, ltb, leb, nat_le, refl, sym, ap, ◌∙◌, arith, eq-or-lt_of_le, ⊎_elim}
+use Rattle.std.proofs.Common.{◌≡◌, ℕ, ◌+◌, ◌<◌, ◌≤◌, ◌⊎◌, inl, inr, Bool, true, false, ◌&&◌, eqb, ltb, leb, nat_le, refl, sym, ap, arith, eq-or-lt_of_le, ⊎_elim}
 use Rattle.std.proofs.lemmas.Bool.{or_left, or_right, or_cases, and_from, and_parts, lt-ltb, ltb-true, leb-true, leb-false, eq-eqb, eqb-true}
 use Rattle.device_api.specs.Position.{Key, by_part, is_at_most, sync_key, message_key, tick_key}
 use Rattle.sync_rule.specs.declared.next.Next.{Next}

@@ -8,3 +8,5 @@ pub mod Ready
 pub mod Steps
 pub mod Intros
 pub mod Waiting
+pub mod Ran
+pub mod Calm

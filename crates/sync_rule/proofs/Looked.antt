@@ -1,7 +1,7 @@
 -- What a look tells is what may be done.
-use Rattle.std.proofs.Common.{◌≡◌, ℕ, ◌<◌, ◌≤◌, ◌↔◌, Bool, true, false, not, ◌&&◌, cond, leb, ltb, List, Option, Some, None, length, IsTrue, refl, sym, ap, ◌∙◌, subst, arith}
+use Rattle.std.proofs.Common.{◌≡◌, ℕ, ◌<◌, ◌≤◌, ◌↔◌, Bool, true, false, not, ◌&&◌, cond, ltb, List, Option, Some, None, length, IsTrue, refl, sym, subst, arith}
 use Rattle.std.specs.Prelude.{MatchOption}
-use Rattle.std.proofs.lemmas.Bool.{ltb-true, ltb-false, leb-true, leb-false, le-leb, false≢true}
+use Rattle.std.proofs.lemmas.Bool.{ltb-true, ltb-false, leb-true, leb-false, false≢true}
 use Rattle.device_api.specs.Behaviour.{Behaviour}
 use Rattle.device_api.specs.Position.{is_at_most}
 use Rattle.sync_rule.specs.declared.next.Next.{Next}
@@ -10,10 +10,10 @@ use Rattle.sync_rule.specs.declared.front.Front.{Front}
 use Rattle.sync_rule.specs.declared.runner.Runner.{Runner}
 use Rattle.sync_rule.specs.Ports.{In}
 use Rattle.sync_rule.specs.Times.{quiet_of, time_of, needed_for}
-use Rattle.sync_rule.specs.Soonest.{IsSoonest, Soonest}
+use Rattle.sync_rule.specs.Soonest.{Soonest}
 use Rattle.sync_rule.specs.ManyPorts.{WaitBelow}
 use Rattle.sync_rule.specs.Next.{key_of, IsNext, IsEnabled, HasHeard, HasEnded, IsDone, IsNeeded, IsAllSent}
-use Rattle.sync_rule.specs.Looks.{has_heard, enabled, enabled_of, enabled_next, is_over, needed_at}
+use Rattle.sync_rule.specs.Looks.{has_heard, enabled, is_over, needed_at}
 use Rattle.sync_rule.specs.Fronts.{IsFront, IsIdleFront}
 use Rattle.sync_rule.proofs.Keys.{SameNeed, same_need, at_most_time}
 use Rattle.sync_rule.proofs.Chosen.{timed_within, key_time}

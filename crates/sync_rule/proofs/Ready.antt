@@ -1,24 +1,22 @@
 -- What a runner that may go on has for its next event.
-use Rattle.std.proofs.Common.{◌≡◌, ℕ, zero, suc, ◌+◌, ◌^◌, ◌<◌, ◌≤◌, true, List, [], ◌∷◌, ◌++◌, length, map, Option, Some, None, refl, sym, ap, ◌∙◌, subst, arith}
+use Rattle.std.proofs.Common.{◌≡◌, ℕ, zero, suc, ◌^◌, ◌<◌, ◌≤◌, true, List, [], ◌∷◌, ◌++◌, length, map, Option, Some, None, refl, sym, ap, ◌∙◌, subst, arith}
 use Rattle.std.specs.Prelude.{slice_get, All}
 use Rattle.std.proofs.lemmas.Option.{none-some, same_Some, slice_get_within}
-use Rattle.cs_base.specs.declared.port_kind.PortKind.{PortKind}
 use Rattle.sb_message.specs.Receivable.{MayReceive, MaySend, receivable, is_event}
 use Rattle.sb_message.specs.declared.message.Body.{Body}
 use Rattle.sb_message.specs.declared.message.Msg.{Msg}
-use Rattle.device_api.specs.declared.logs.Line.{Line}
-use Rattle.device_api.specs.Behaviour.{Behaviour, Reaction, SendsAndLines, IsLawful, IsOrderly, IsNotPast}
+use Rattle.device_api.specs.Behaviour.{Behaviour, Reaction, SendsAndLines, IsLawful, IsNotPast}
 use Rattle.device_api.specs.Gives.{Gives}
 use Rattle.device_api.specs.Position.{message_key, tick_key}
 use Rattle.device_api.specs.World.{logged_at}
 use Rattle.sync_rule.specs.declared.next.Next.{Next}
 use Rattle.sync_rule.specs.declared.next.Next.TheVariants.{Sync, Take, Tick}
 use Rattle.sync_rule.specs.declared.runner.Runner.{Runner}
-use Rattle.sync_rule.specs.Ports.{In, Out, taken, at_place, post_all}
+use Rattle.sync_rule.specs.Ports.{In, taken, at_place, post_all}
 use Rattle.sync_rule.specs.Times.{head_of, head_time, time_of}
-use Rattle.sync_rule.specs.ManyPorts.{IsHead, IsEmptyAt, HavePorts, ArePlanned}
+use Rattle.sync_rule.specs.ManyPorts.{IsHead, IsEmptyAt, HavePorts}
 use Rattle.sync_rule.specs.Next.{IsEnabled, IsReady, AreReceivable}
-use Rattle.sync_rule.specs.Steps.{after_done, after_reaction, after_take, after_tick, IsAfterTake}
+use Rattle.sync_rule.specs.Steps.{after_done, after_reaction, after_tick, IsAfterTake}
 use Rattle.sync_rule.proofs.Keys.{at_most_time}
 
 get-map : {X Y : Type 0} (f : X → Y) (xs : List X) (i : ℕ) (x : X) → slice_get xs i ≡ Some x → slice_get (map f xs) i ≡ Some (f x)

@@ -1,13 +1,13 @@
 -- What one port met, as what its runner did.
-use Rattle.std.proofs.Common.{◌≡◌, ℕ, zero, suc, ◌+◌, ◌<◌, Bool, true, false, List, [], ◌∷◌, ◌++◌, length, Option, Some, None, Ok, Err, refl, sym, ap, ◌∙◌, subst, inl, inr, ◌⊎◌}
+use Rattle.std.proofs.Common.{◌≡◌, ℕ, zero, suc, Bool, true, false, List, [], ◌∷◌, Option, Some, None, Ok, Err, refl, sym, ap, ◌∙◌, subst, inl, inr, ◌⊎◌}
 use Rattle.std.specs.Prelude.{slice_get, slice_set, OnOk, IfSome, IfNone, Result}
-use Rattle.std.proofs.lemmas.Option.{none-some, same_Some}
+use Rattle.std.proofs.lemmas.Option.{same_Some}
 use Rattle.sb_message.specs.declared.message.Msg.{Msg}
 use Rattle.sync_rule.specs.declared.runner.Runner.{Runner}
 use Rattle.sync_rule.specs.Ports.{In, Out, taken, passed_on, rest_of, heard, at_place}
-use Rattle.sync_rule.specs.OnePort.{PassesOn, HearsOne}
-use Rattle.sync_rule.specs.ManyPorts.{AtPort, IsHead, TakesAt, outbox_in, outbox_at}
-use Rattle.sync_rule.specs.Steps.{Sends, Receives, introduced_at}
+use Rattle.sync_rule.specs.OnePort.{PassesOn}
+use Rattle.sync_rule.specs.ManyPorts.{AtPort, TakesAt, outbox_in, outbox_at}
+use Rattle.sync_rule.specs.Steps.{Sends}
 use Rattle.sync_rule.proofs.Places.{set_at}
 
 pub on_ok : {A E : Type 0} {P Q : Type 0} (r : Result A E) → (P → Q) → OnOk r P → OnOk r Q

@@ -1,17 +1,16 @@
 -- Whether messages wait to be sent, one port after another; and which port bars its component.
-use Rattle.std.proofs.Common.{◌≡◌, ℕ, ◌+◌, ◌<◌, ◌≤◌, ◌⊎◌, inl, inr, Bool, true, false, ◌||◌, List, [], ◌∷◌, length, Option, Some, None, refl, sym, ap, ◌∙◌, subst, arith, eq-or-lt_of_le}
+use Rattle.std.proofs.Common.{◌≡◌, ℕ, ◌+◌, ◌<◌, ◌≤◌, ◌⊎◌, inl, inr, Bool, true, false, ◌||◌, List, [], ◌∷◌, length, Some, refl, sym, ap, ◌∙◌, subst, arith, eq-or-lt_of_le}
 use Rattle.std.specs.Prelude.{slice_get}
 use Rattle.std.proofs.lemmas.Bool.{false≢true}
 use Rattle.std.proofs.lemmas.Option.{none-some, same_Some}
 use Rattle.sb_message.specs.declared.message.Msg.{Msg}
 use Rattle.sync_rule.specs.Ports.{In, Out, waits_of}
-use Rattle.sync_rule.specs.Times.{quiet_of, quiet_bound}
-use Rattle.sync_rule.specs.Soonest.{IsTimed}
+use Rattle.sync_rule.specs.Times.{quiet_bound}
 use Rattle.sync_rule.specs.OnePort.{BarsHere}
 use Rattle.sync_rule.specs.ManyPorts.{Bars, SentBelow, WaitBelow}
 
 module _ (outs : List Out) (n : ℕ) (o : Out) (there : slice_get outs n ≡ Some o) where
-  sent_more : SentBelow outs n → o.outbox ≡ [] → SentBelow outs (n + 1)
+  pub sent_more : SentBelow outs n → o.outbox ≡ [] → SentBelow outs (n + 1)
   sent_more below here p x lt is = from (eq-or-lt_of_le (let le : p ≤ n = omega arith in le))
     where
       from : (p ≡ n) ⊎ (p < n) → x.outbox ≡ []
@@ -31,6 +30,14 @@ module _ (outs : List Out) (n : ℕ) (o : Out) (there : slice_get outs n ≡ Som
         where
           empty_is : (m : Msg) (more : List Msg) → m ∷ more ≡ [] → ⊥
           empty_is m more none = absurd (let lengths : length (m ∷ more) ≡ 0 = ap length none in omega arith)
+
+pub waits_then : (outbox : List Msg) → waits_of outbox ≡ true → outbox ≡ [] → ⊥
+waits_then [] e none = false≢true e
+waits_then (m ∷ more) e none = let lengths : length (m ∷ more) ≡ 0 = ap length none in omega arith
+
+pub sent_then : (outbox : List Msg) → waits_of outbox ≡ false → outbox ≡ []
+sent_then [] e = refl
+sent_then (m ∷ more) e = absurd (false≢true (sym e))
 
 quiet_is : (inbox : List Msg) (bound b : ℕ) → quiet_bound inbox bound ≡ Some b → (inbox ≡ []) × (bound ≡ b)
 quiet_is [] bound b e = (refl, same_Some bound b e)

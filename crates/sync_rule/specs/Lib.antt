@@ -8,3 +8,4 @@ pub mod Choice
 pub mod Looks
 pub mod Fronts
 pub mod Steps
+pub mod Events

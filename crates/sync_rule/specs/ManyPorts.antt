@@ -1,5 +1,5 @@
 -- One port of many.
-use Rattle.std.specs.Prelude.{ℕ, ◌≡◌, ◌<◌, [], ◌∷◌, List, Bool, true, false, All, slice_get, slice_set, Option, Some, None}
+use Rattle.std.specs.Prelude.{ℕ, ◌≡◌, ◌<◌, [], ◌∷◌, List, Bool, true, false, All, slice_get, slice_set, Option, Some, None, MatchOption}
 use Rattle.sb_message.specs.declared.message.Msg.{Msg}
 use Rattle.sb_message.specs.declared.message.Body.{Body}
 use Rattle.sync_rule.specs.Ports.{In, Out, IsPlanned, taken, at_place}
@@ -46,6 +46,10 @@ pub record IsLeastBar (ins : List In) (needed port : ℕ) : Type 0 where
   pub bars : Bars ins needed port
   pub first : (p : ℕ) → p < port → Bars ins needed p → ⊥
 
+-- the least port that bars, or none does
+abbrev pub LeastBar : List In → ℕ → Option ℕ → Type 0
+LeastBar ins needed least = MatchOption least ((p : ℕ) → Bars ins needed p → ⊥) (IsLeastBar ins needed)
+
 -- what waits to be sent at a port
 abbrev pub outbox_at : Option Out → List Msg
 outbox_at None = []
@@ -65,6 +69,17 @@ HavePorts n sends = All (λ (sent : ℕ × Body). sent.0 < n) sends
 -- nothing waits to be sent at the ports below n
 abbrev pub SentBelow : List Out → ℕ → Type 0
 SentBelow outs n = (p : ℕ) (o : Out) → p < n → slice_get outs p ≡ Some o → o.outbox ≡ []
+
+-- a message waits to be sent at a port
+pub record WaitsAt (outs : List Out) (port : ℕ) : Type 0 where
+  pub is : Out
+  pub there : slice_get outs port ≡ Some is
+  pub some : is.outbox ≡ [] → ⊥
+
+-- a port is the least where one waits
+pub record IsFirstWaiting (outs : List Out) (port : ℕ) : Type 0 where
+  pub waits : WaitsAt outs port
+  pub first : SentBelow outs port
 
 -- whether anything waits there
 pub record WaitBelow (outs : List Out) (n : ℕ) (waits : Bool) : Type 0 where

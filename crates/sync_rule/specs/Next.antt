@@ -1,5 +1,5 @@
 -- Which event of a component is next, whether it may be processed, and when the component has ended.
-use Rattle.std.specs.Prelude.{ℕ, ◌≡◌, ◌≤◌, ◌<◌, ◌+◌, ◌^◌, true, List, [], length, map, slice_get, Some}
+use Rattle.std.specs.Prelude.{ℕ, ◌≡◌, ◌≤◌, ◌<◌, ◌+◌, ◌^◌, true, List, [], length, map, slice_get, Option, Some, MatchOption}
 use Rattle.std.specs.List.{AllByRecursion}
 use Rattle.cs_base.specs.declared.port_kind.PortKind.{PortKind}
 use Rattle.sb_message.specs.Receivable.{receivable, is_event}
@@ -11,7 +11,7 @@ use Rattle.sync_rule.specs.declared.next.Next.TheVariants.{Sync, Take, Tick}
 use Rattle.sync_rule.specs.declared.runner.Runner.{Runner}
 use Rattle.sync_rule.specs.Ports.{In, Out}
 use Rattle.sync_rule.specs.Soonest.{IsTimed}
-use Rattle.sync_rule.specs.ManyPorts.{Bars, IsLeastBar, ArePlanned}
+use Rattle.sync_rule.specs.ManyPorts.{Bars, IsLeastBar, IsFirstWaiting, ArePlanned}
 use Rattle.sync_rule.specs.Times.{timer_of, head_of, quiet_of, time_of, needed_for}
 
 -- what a component may do next: a port's null message is due, a message waits first at a port, the device is due
@@ -39,6 +39,10 @@ HasHeard ins needed = (p bound : ℕ) → IsTimed quiet_of ins p bound → neede
 -- no message waits to be sent
 abbrev pub IsAllSent : List Out → Type 0
 IsAllSent outs = (p : ℕ) (o : Out) → slice_get outs p ≡ Some o → o.outbox ≡ []
+
+-- the least port where one waits, or none does
+abbrev pub FirstWaiting : List Out → Option ℕ → Type 0
+FirstWaiting outs port = MatchOption port (IsAllSent outs) (IsFirstWaiting outs)
 
 -- an event may be processed: it is the next one, before the end, nothing waits to be sent, and no message can still
 -- come in before it
@@ -74,6 +78,10 @@ pub record IsUnbarred {V : Type 0} (b : Behaviour V) (r : Runner V) : Type 0 whe
   pub needed : ℕ
   pub is_needed : IsNeeded b r needed
   pub none : (p : ℕ) → Bars r.incoming needed p → ⊥
+
+-- the least port that bars it, or none does
+abbrev pub BarredBy : {V : Type 0} → Behaviour V → Runner V → Option ℕ → Type 0
+BarredBy b r port = MatchOption port (IsUnbarred b r) (IsBarred b r)
 
 -- what waits at a port are events that it may receive
 abbrev pub AreReceivable : PortKind → List Msg → Type 0

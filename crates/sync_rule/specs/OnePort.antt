@@ -3,12 +3,15 @@ use Rattle.std.specs.Prelude.{ℕ, ◌≡◌, ◌<◌, Bool, true, false, List, 
 use Rattle.std.specs.declared.result.Result.{Result}
 use Rattle.std.specs.declared.result.Result.TheVariants.{Ok, Err}
 use Rattle.cs_base.specs.declared.no_memory.NoMemory.{NoMemory}
+use Rattle.cs_base.specs.declared.port_kind.PortKind.{PortKind}
 use Rattle.sb_intro.specs.declared.intro.Intro.{Intro}
 use Rattle.sb_message.specs.declared.message.Msg.{Msg}
+use Rattle.port_queue.specs.Port.{IsNextSent}
 use Rattle.sync_rule.specs.declared.port_plan.PortPlan.{PortPlan}
 use Rattle.sync_rule.specs.declared.incoming.Got.{Got}
 use Rattle.sync_rule.specs.declared.incoming.Got.TheVariants.{Nothing, Received, Wrong}
 use Rattle.sync_rule.specs.Ports.{In, Out, introduction_to, heard, passed_on}
+use Rattle.sync_rule.specs.ManyPorts.{AtPort}
 
 -- the first message of a port isn't its introduction
 pub record IsWrong (introduced : Bool) (plan : PortPlan) (m : Msg) : Type 0 where
@@ -66,3 +69,20 @@ pub record KeepsAll (refuses untouched : Type 0) (old new : Out) : Type 0 where
 abbrev pub PassesOn : (Msg → Type 0) → Type 0 → Type 0 → Out → Out → Bool → Type 0
 PassesOn pushes refuses untouched old new true = PassesOne pushes old new
 PassesOn pushes refuses untouched old new false = KeepsAll refuses untouched old new
+
+-- the same by an end of a channel, with its relations, as it was and as it is; and at one port of many
+abbrev pub HearsBy : {R : Type 0} → (R → Msg → R → Type 0) → (R → R → Type 0) → R → R → In → In → Result Got NoMemory → Type 0
+HearsBy pops empties rx rx' old new got = Hears (λ m. pops rx m rx') (empties rx rx') (rx' ≡ rx) old new got
+
+abbrev pub HearsAt : {R : Type 0} → (R → Msg → R → Type 0) → (R → R → Type 0) → R → R → List In → List In → ℕ → Result Got NoMemory → Type 0
+HearsAt pops empties rx rx' old new port got = AtPort old new port (λ a b. HearsBy pops empties rx rx' a b got)
+
+abbrev pub PassesOnBy : {T : Type 0} → (T → Msg → T → Type 0) → (T → T → Type 0) → T → T → Out → Out → Bool → Type 0
+PassesOnBy pushes refuses tx tx' old new sent = PassesOn (λ m. pushes tx m tx') (refuses tx tx') (tx' ≡ tx) old new sent
+
+abbrev pub PassesOnAt : {T : Type 0} → (T → Msg → T → Type 0) → (T → T → Type 0) → T → T → List Out → List Out → ℕ → Bool → Type 0
+PassesOnAt pushes refuses tx tx' old new port sent = AtPort old new port (λ a b. PassesOnBy pushes refuses tx tx' a b sent)
+
+-- the end of a channel may be given what waits first in an outbox
+abbrev pub MayPass : List Msg → PortKind → (List Msg → Type 0) → Type 0
+MayPass outbox kind stands = (m : Msg) (more : List Msg) → outbox ≡ m ∷ more → IsNextSent kind stands m

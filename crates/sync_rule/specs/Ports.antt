@@ -1,5 +1,5 @@
 -- A component's ports as its runner keeps them, and what happens at one port.
-use Rattle.std.specs.Prelude.{ℕ, ◌≡◌, ◌≤◌, ◌+◌, ◌-◌, ◌^◌, zero, suc, min, Bool, true, false, if◌then◌else◌, List, [], ◌∷◌, ◌++◌}
+use Rattle.std.specs.Prelude.{ℕ, ◌≤◌, ◌+◌, ◌-◌, ◌^◌, zero, suc, min, Bool, true, false, if◌then◌else◌, List, [], ◌∷◌, ◌++◌}
 use Rattle.cs_base.specs.Plan.{partner}
 use Rattle.sb_intro.specs.Expected.{expected}
 use Rattle.sb_message.specs.Receivable.{is_event}

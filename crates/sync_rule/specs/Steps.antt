@@ -13,7 +13,7 @@ use Rattle.sync_rule.specs.declared.port_plan.PortPlan.{PortPlan}
 use Rattle.sync_rule.specs.declared.run_bad.RunBad.{RunBad}
 use Rattle.sync_rule.specs.declared.run_bad.RunBad.TheVariants.{WrongIntro, NoMemory}
 use Rattle.sync_rule.specs.declared.runner.Runner.{Runner}
-use Rattle.sync_rule.specs.Ports.{In, Out, first_in, first_out, introduction_to, synced, passed_on, taken, heard, at_place, post_all}
+use Rattle.sync_rule.specs.Ports.{In, first_in, first_out, introduction_to, synced, passed_on, taken, heard, at_place, post_all}
 use Rattle.sync_rule.specs.ManyPorts.{IsHead, outbox_in}
 use Rattle.sync_rule.specs.Next.{IsEnabled}
 
@@ -120,3 +120,10 @@ Polls pops empties untouched old new port (Ok true) = Receives pops old new port
 Polls pops empties untouched old new port (Ok false) = empties × (new ≡ old)
 Polls pops empties untouched old new port (Err (WrongIntro at found)) = IsWrongIntro pops old port at found
 Polls pops empties untouched old new port (Err NoMemory) = untouched
+
+-- the same by an end of a channel, with its relations, as it was and as it is
+abbrev pub SendsBy : {V T : Type 0} → (T → Msg → T → Type 0) → (T → T → Type 0) → T → T → Runner V → Runner V → ℕ → Bool → Type 0
+SendsBy pushes refuses tx tx' old new port sent = Sends (λ m. pushes tx m tx') (refuses tx tx') (tx' ≡ tx) old new port sent
+
+abbrev pub PollsBy : {V R : Type 0} → (R → Msg → R → Type 0) → (R → R → Type 0) → R → R → Runner V → Runner V → ℕ → Result Bool RunBad → Type 0
+PollsBy pops empties rx rx' old new port got = Polls (λ m. pops rx m rx') (empties rx rx') (rx' ≡ rx) old new port got

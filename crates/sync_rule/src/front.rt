@@ -1,6 +1,6 @@
-ghost use Rattle.std.specs.Prelude.{◌≡◌, ◌<◌, ◌+◌, ◌^◌, not, ◌&&◌, Some};
+ghost use Rattle.std.specs.Prelude.{◌≡◌, ◌<◌, ◌+◌, ◌^◌, Some, IfSome};
 ghost use Rattle.sync_rule.specs.Times.{time_of, needed_for};
-ghost use Rattle.sync_rule.specs.Looks.{has_heard, enabled_next, needed_at, is_over};
+ghost use Rattle.sync_rule.specs.Looks.{has_heard, enabled_next, needed_at, is_over, lesser_of, calm_until};
 
 use crate::choose::time_of;
 use crate::next::Next;
@@ -16,6 +16,8 @@ pub struct Front {
     pub quiet: Option<Timer>,
     /// Whether a message waits to be sent.
     pub waits: bool,
+    /// Until when only the device may be due.
+    pub calm: Time,
 }
 
 /// Whether the ports where nothing waits have heard so far.
@@ -74,8 +76,49 @@ fn is_over(next: Option<Next>, end: Time) -> bool
     }
 }
 
+/// The lesser of a time and a timer's, if there is one.
+fn lesser_of(time: Time, timer: Option<Timer>) -> Time
+    ensures { result ≡ lesser_of time timer }
+{
+    match timer {
+        None => time,
+        Some(timer) => {
+            if timer.at.picoseconds() < time.picoseconds() {
+                timer.at
+            } else {
+                time
+            }
+        }
+    }
+}
+
+/// Until when only the device may be due, by the soonest null message, the soonest message that
+/// waits, the least bound where none waits, and the end.
+pub fn calm_until(
+    timer: Option<Timer>,
+    head: Option<Timer>,
+    quiet: Option<Timer>,
+    end: Time,
+) -> Time
+    ensures { result ≡ calm_until timer head quiet end }
+{
+    lesser_of(lesser_of(lesser_of(end, timer), head), quiet)
+}
+
+/// A due time that is before another.
+pub fn due_before(due: Option<Time>, until: Time) -> Option<Time>
+    ensures { IfSome result (λ at. (due ≡ Some at) × (at < until)) }
+{
+    let at = due?;
+    if at.picoseconds() < until.picoseconds() {
+        Some(at)
+    } else {
+        None
+    }
+}
+
 impl Front {
-    ghost use Rattle.sync_rule.specs.Looks.{enabled};
+    ghost use Rattle.sync_rule.specs.Looks.{enabled, is_all_done};
 
     /// The event that may be processed.
     pub fn enabled(&self, end: Time) -> Option<Next>
@@ -89,7 +132,7 @@ impl Front {
 
     /// Whether the component has ended.
     pub fn ended(&self, end: Time) -> bool
-        ensures { result ≡ not self.now.waits && (is_over self.now.next end && has_heard self.now.quiet end) }
+        ensures { result ≡ is_all_done self.now.waits self.now.next self.now.quiet end }
     {
         !self.waits && is_over(self.next, end) && has_heard(self.quiet, end)
     }

@@ -1,7 +1,7 @@
 ghost use Rattle.std.specs.Prelude.{◌≡◌, ◌<◌, [], ◌∷◌, ◌++◌, ◌↔◌, IsTrue, IfSome, IfNone};
 ghost use Rattle.sync_rule.specs.Ports.{first_in, taken, introduction_to, waiting_of};
 ghost use Rattle.sync_rule.specs.Times.{head_of, quiet_of};
-ghost use Rattle.sync_rule.specs.OnePort.{Hears, SameFields, Judged, BarsHere};
+ghost use Rattle.sync_rule.specs.OnePort.{HearsBy, SameFields, Judged, BarsHere};
 
 use crate::port_plan::PortPlan;
 use cs_base::no_memory::NoMemory;
@@ -89,7 +89,7 @@ impl Incoming {
 
     /// Receives a message, if one is there.
     pub fn receive<R: RxPort>(&mut self, rx: &mut R) -> Result<Got, NoMemory>
-        ensures { Hears (λ m. R.pops rx.old m rx.new) (R.empties rx.old rx.new) (rx.new ≡ rx.old) self.old self.new result }
+        ensures { HearsBy R.pops R.empties rx.old rx.new self.old self.new result }
     {
         self.inbox.reserve(1)?;
         let Some(message) = rx.pop() else {

@@ -2,8 +2,8 @@ ghost use Rattle.std.specs.Prelude.{◌≡◌, ◌<◌, map, length, slice_get, 
 ghost use Rattle.sync_rule.specs.Ports.{first_in};
 ghost use Rattle.sync_rule.specs.Times.{head_of, quiet_of};
 ghost use Rattle.sync_rule.specs.Soonest.{Soonest};
-ghost use Rattle.sync_rule.specs.ManyPorts.{AtPort, TakesAt, Bars, IsLeastBar};
-ghost use Rattle.sync_rule.specs.OnePort.{Hears};
+ghost use Rattle.sync_rule.specs.ManyPorts.{TakesAt, LeastBar};
+ghost use Rattle.sync_rule.specs.OnePort.{HearsAt};
 
 use crate::incoming::{Got, Incoming};
 use crate::port_plan::PortPlan;
@@ -67,7 +67,7 @@ impl IncomingPorts {
 
     /// The least port where nothing waits and that has not heard so far.
     pub fn barred(&self, needed: Time) -> Option<usize>
-        ensures { MatchOption result ((p : ℕ) → Bars self.now needed p → ⊥) (IsLeastBar self.now needed) }
+        ensures { LeastBar self.now needed result }
     {
         barred_at(self.items.as_slice(), needed)
     }
@@ -83,7 +83,7 @@ impl IncomingPorts {
     /// Receives a message at a port, if one is there.
     pub fn receive<R: RxPort>(&mut self, port: usize, rx: &mut R) -> Result<Got, NoMemory>
         requires { port < length self.old }
-        ensures { AtPort self.old self.new port (λ a b. Hears (λ m. R.pops rx.old m rx.new) (R.empties rx.old rx.new) (rx.new ≡ rx.old) a b result) }
+        ensures { HearsAt R.pops R.empties rx.old rx.new self.old self.new port result }
     {
         self.items[port].receive(rx)
     }
@@ -103,7 +103,7 @@ fn heard_at(items: &[Incoming]) -> Heard
 }
 
 fn barred_at(items: &[Incoming], needed: Time) -> Option<usize>
-    ensures { MatchOption result ((p : ℕ) → Bars items.now needed p → ⊥) (IsLeastBar items.now needed) }
+    ensures { LeastBar items.now needed result }
 {
     for (port, incoming) in items.iter().enumerate() {
         if incoming.bars(needed) {

@@ -2,7 +2,7 @@ ghost use Rattle.std.specs.Prelude.{◌≡◌, ◌<◌, ◌^◌, ◌∷◌, List
 ghost use Rattle.sb_message.specs.declared.message.Msg.{Msg};
 ghost use Rattle.port_queue.specs.Port.{IsNextSent};
 ghost use Rattle.sync_rule.specs.Ports.{IsPlanned, first_out, synced, posted, waits_of};
-ghost use Rattle.sync_rule.specs.OnePort.{PassesOn};
+ghost use Rattle.sync_rule.specs.OnePort.{PassesOnBy, MayPass};
 
 use crate::port_plan::PortPlan;
 use cs_base::no_memory::NoMemory;
@@ -101,8 +101,8 @@ impl Outgoing {
 
     /// Sends the first message that waits, if the channel has room.
     pub fn pass_on<T: TxPort>(&mut self, tx: &mut T) -> bool
-        requires { (m : Msg) (more : List Msg) → self.old.outbox ≡ m ∷ more → IsNextSent (T.kind tx.old) (T.stands tx.old) m }
-        ensures { PassesOn (λ m. T.pushes tx.old m tx.new) (T.refuses tx.old tx.new) (tx.new ≡ tx.old) self.old self.new result }
+        requires { MayPass self.old.outbox (T.kind tx.old) (T.stands tx.old) }
+        ensures { PassesOnBy T.pushes T.refuses tx.old tx.new self.old self.new result }
     {
         let Some(message) = self.outbox.pop() else {
             return false;

@@ -5,7 +5,8 @@ ghost use Rattle.sync_rule.specs.Ports.{Out, first_out, synced, posted, at_place
 ghost use Rattle.sync_rule.specs.Times.{timer_of};
 ghost use Rattle.sync_rule.specs.Soonest.{Soonest};
 ghost use Rattle.sync_rule.specs.ManyPorts.{AtPort, outbox_in, ArePlanned, HavePorts, WaitBelow};
-ghost use Rattle.sync_rule.specs.OnePort.{PassesOn};
+ghost use Rattle.sync_rule.specs.Next.{FirstWaiting};
+ghost use Rattle.sync_rule.specs.OnePort.{PassesOnAt, MayPass};
 
 use crate::outgoing::Outgoing;
 use crate::port_plan::PortPlan;
@@ -65,6 +66,13 @@ impl OutgoingPorts {
         due_at(self.items.as_slice())
     }
 
+    /// The least port at which a message waits to be sent.
+    pub fn waiting(&self) -> Option<usize>
+        ensures { FirstWaiting self.now result }
+    {
+        waiting_at(self.items.as_slice())
+    }
+
     /// Makes a null message for a port.
     pub fn sync(&mut self, port: usize, u: Time) -> Result<(), NoMemory>
         requires there { port < length self.old }
@@ -103,8 +111,8 @@ impl OutgoingPorts {
     /// Sends the first message that waits at a port, if the channel has room.
     pub fn pass_on<T: TxPort>(&mut self, port: usize, tx: &mut T) -> bool
         requires there { port < length self.old }
-        requires next { (m : Msg) (more : List Msg) → outbox_in self.old port ≡ m ∷ more → IsNextSent (T.kind tx.old) (T.stands tx.old) m }
-        ensures { AtPort self.old self.new port (λ a b. PassesOn (λ m. T.pushes tx.old m tx.new) (T.refuses tx.old tx.new) (tx.new ≡ tx.old) a b result) }
+        requires next { MayPass (outbox_in self.old port) (T.kind tx.old) (T.stands tx.old) }
+        ensures { PassesOnAt T.pushes T.refuses tx.old tx.new self.old self.new port result }
     {
         self.items[port].pass_on(tx)
     }
@@ -130,6 +138,17 @@ fn due_at(items: &[Outgoing]) -> Due
         waits = waits_too(waits, outgoing.waits());
     }
     Due { timer, waits }
+}
+
+fn waiting_at(items: &[Outgoing]) -> Option<usize>
+    ensures { FirstWaiting items.now result }
+{
+    for (port, outgoing) in items.iter().enumerate() {
+        if outgoing.waits() {
+            return Some(port);
+        }
+    }
+    None
 }
 
 fn waits_too(before: bool, here: bool) -> bool

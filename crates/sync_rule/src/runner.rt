@@ -1,7 +1,7 @@
-ghost use Rattle.std.specs.Prelude.{◌≡◌, ◌≤◌, ◌<◌, ◌^◌, ◌↔◌, [], ℕ, All, map, length, IsTrue, IfOk, OnOk, MatchOption};
+ghost use Rattle.std.specs.Prelude.{◌≡◌, ◌≤◌, ◌<◌, ◌^◌, ◌↔◌, [], ℕ, false, All, map, length, IsTrue, IfOk, OnOk, MatchOption};
 
 use crate::choose::chosen;
-use crate::front::Front;
+use crate::front::{Front, calm_until, due_before};
 use crate::incoming::Got;
 use crate::incoming_ports::IncomingPorts;
 use crate::next::Next;
@@ -32,9 +32,10 @@ impl<V: Device> Runner<V> {
     ghost use Rattle.sync_rule.specs.ManyPorts.{ArePlanned, HavePorts};
     ghost use Rattle.sync_rule.specs.declared.next.Next.TheVariants.{Take, Tick};
     ghost use Rattle.sync_rule.specs.declared.port_plan.PortPlan.{PortPlan};
-    ghost use Rattle.sync_rule.specs.Next.{IsEnabled, HasEnded, IsBarred, IsUnbarred, IsReady};
+    ghost use Rattle.sync_rule.specs.Next.{IsEnabled, HasEnded, BarredBy, FirstWaiting, IsReady};
     ghost use Rattle.sync_rule.specs.Fronts.{IsFront};
-    ghost use Rattle.sync_rule.specs.Steps.{started, after_done, IsAfter, IsAfterTake, after_tick, Processes, MaySendNext, Sends, Polls};
+    ghost use Rattle.sync_rule.specs.Events.{IsReadyThroughout, RanUpTo, RanOn, IsCalm, TicksSilently};
+    ghost use Rattle.sync_rule.specs.Steps.{started, after_done, IsAfter, IsAfterTake, after_tick, Processes, MaySendNext, SendsBy, PollsBy};
 
     /// A component at its start. Its ports are those of its device, in order, and it processes what is before `end`,
     /// which is at least 1 and at most 10^15 picoseconds. The introduction of each port waits to be sent.
@@ -64,7 +65,8 @@ impl<V: Device> Runner<V> {
 
     /// One look at each port and at the device.
     fn front(&self) -> Front
-        ensures { IsFront V.behaviour self.now result }
+        ensures front { IsFront V.behaviour self.now result }
+        ensures calm { IsCalm self.now.incoming self.now.outgoing self.now.end result.calm }
     {
         let due = self.outgoing.due();
         let heard = self.incoming.heard();
@@ -72,6 +74,7 @@ impl<V: Device> Runner<V> {
             next: chosen(due.timer, heard.head, self.device.due()),
             quiet: heard.quiet,
             waits: due.waits,
+            calm: calm_until(due.timer, heard.head, heard.quiet, self.end),
         }
     }
 
@@ -88,6 +91,69 @@ impl<V: Device> Runner<V> {
         Ok(true)
     }
 
+    /// Processes events in a row, `most` at most, and tells how many: fewer only where the next may not be processed.
+    pub fn events(&mut self, alloc: Global, most: u64) -> Result<u64, NoMemory>
+        requires ready { IsReadyThroughout V.behaviour V.settled self.old }
+        ensures { IfOk result (RanUpTo V.behaviour self.old self.new most) }
+    {
+        let mut ran = 0;
+        'events: while ran < most {
+            let front = self.front();
+            let Some(next) = front.enabled(self.end) else {
+                return Ok(ran);
+            };
+            ran += self.go_on(alloc, next, front.calm, most - ran)?;
+        }
+        Ok(ran)
+    }
+
+    /// Processes the next event, and where that is a tick those ticks too that follow with nothing between them.
+    fn go_on(&mut self, alloc: Global, next: Next, calm: Time, most: u64) -> Result<u64, NoMemory>
+        requires ready { IsReadyThroughout V.behaviour V.settled self.old }
+        requires enabled { IsEnabled V.behaviour self.old next }
+        requires calm { IsCalm self.old.incoming self.old.outgoing self.old.end calm }
+        requires some { 0 < most }
+        ensures { IfOk result (RanOn V.behaviour self.old self.new most) }
+    {
+        match next {
+            Next::Tick { at } => self.run_on(alloc, at, calm, most),
+            Next::Sync { .. } | Next::Take { .. } => self.process_one(alloc, next),
+        }
+    }
+
+    fn process_one(&mut self, alloc: Global, next: Next) -> Result<u64, NoMemory>
+        requires ready { IsReadyThroughout V.behaviour V.settled self.old }
+        requires enabled { IsEnabled V.behaviour self.old next }
+        ensures { IfOk result (RanOn V.behaviour self.old self.new 1) }
+    {
+        self.process(alloc, next)?;
+        Ok(1)
+    }
+
+    /// Runs on from tick to tick with no look at the ports, up to the first tick that sends.
+    fn run_on(&mut self, alloc: Global, first: Time, calm: Time, most: u64) -> Result<u64, NoMemory>
+        requires ready { IsReadyThroughout V.behaviour V.settled self.old }
+        requires enabled { IsEnabled V.behaviour self.old (Tick first) }
+        requires calm { IsCalm self.old.incoming self.old.outgoing self.old.end calm }
+        requires some { 0 < most }
+        ensures { IfOk result (RanOn V.behaviour self.old self.new most) }
+    {
+        let mut at = first;
+        let mut ran = 0;
+        'ticks: while ran < most {
+            let sent = self.tick(alloc, at)?;
+            ran += 1;
+            if sent {
+                return Ok(ran);
+            }
+            let Some(due) = due_before(self.device.due(), calm) else {
+                return Ok(ran);
+            };
+            at = due;
+        }
+        Ok(ran)
+    }
+
     fn process(&mut self, alloc: Global, next: Next) -> Result<(), NoMemory>
         requires ready { IsReady V.behaviour V.settled self.old }
         requires enabled { IsEnabled V.behaviour self.old next }
@@ -96,7 +162,10 @@ impl<V: Device> Runner<V> {
         match next {
             Next::Sync { port, at } => self.outgoing.sync(port, at),
             Next::Take { port, at } => self.take(alloc, port, at),
-            Next::Tick { at } => self.tick(alloc, at),
+            Next::Tick { at } => {
+                self.tick(alloc, at)?;
+                Ok(())
+            }
         }
     }
 
@@ -113,13 +182,17 @@ impl<V: Device> Runner<V> {
         self.carry_out(at)
     }
 
-    fn tick(&mut self, alloc: Global, at: Time) -> Result<(), NoMemory>
+    /// Tells whether the device sent anything.
+    fn tick(&mut self, alloc: Global, at: Time) -> Result<bool, NoMemory>
         requires ready { IsReady V.behaviour V.settled self.old }
         requires enabled { IsEnabled V.behaviour self.old (Tick at) }
-        ensures { OnOk result (self.new ≡ after_tick V.behaviour self.old at) }
+        ensures after { OnOk result (self.new ≡ after_tick V.behaviour self.old at) }
+        ensures silent { IfOk result (λ sent. sent ≡ false → TicksSilently V.behaviour self.old at) }
     {
         self.device.tick(alloc, at, &mut self.done)?;
-        self.carry_out(at)
+        let sent = !self.done.sends.is_empty();
+        self.carry_out(at)?;
+        Ok(sent)
     }
 
     /// Logs what the device logged, and makes messages of what it sent.
@@ -129,6 +202,9 @@ impl<V: Device> Runner<V> {
         requires in_run { at < 10 ^ 15 }
         ensures { OnOk result (self.new ≡ after_done self.old at) }
     {
+        if self.done.lines.is_empty() && self.done.sends.is_empty() {
+            return Ok(());
+        }
         log_all(at, &mut self.done.lines, &mut self.log)?;
         self.outgoing.post_all(at, &mut self.done.sends)
     }
@@ -138,7 +214,7 @@ impl<V: Device> Runner<V> {
     pub fn send<T: TxPort>(&mut self, port: u32, tx: &mut T) -> bool
         requires there { port < length self.old.outgoing }
         requires next { MaySendNext self.old port (T.kind tx.old) (T.stands tx.old) }
-        ensures { Sends (λ m. T.pushes tx.old m tx.new) (T.refuses tx.old tx.new) (tx.new ≡ tx.old) self.old self.new port result }
+        ensures { SendsBy T.pushes T.refuses tx.old tx.new self.old self.new port result }
     {
         self.outgoing.pass_on(port as usize, tx)
     }
@@ -146,7 +222,7 @@ impl<V: Device> Runner<V> {
     /// Receives a message at a port, if one is there. The first must be the introduction that the port's link asks for.
     pub fn poll<R: RxPort>(&mut self, port: u32, rx: &mut R) -> Result<bool, RunBad>
         requires there { port < length self.old.incoming }
-        ensures { Polls (λ m. R.pops rx.old m rx.new) (R.empties rx.old rx.new) (rx.new ≡ rx.old) self.old self.new port result }
+        ensures { PollsBy R.pops R.empties rx.old rx.new self.old self.new port result }
     {
         match self.incoming.receive(port as usize, rx) {
             Err(_) => Err(RunBad::NoMemory),
@@ -175,10 +251,21 @@ impl<V: Device> Runner<V> {
     /// ended.
     pub fn barred(&self) -> Option<u32>
         requires few { length self.now.incoming ≤ 32 }
-        ensures { MatchOption result (IsUnbarred V.behaviour self.now) (IsBarred V.behaviour self.now) }
+        ensures { BarredBy V.behaviour self.now result }
     {
         let needed = self.front().needed(self.end);
         match self.incoming.barred(needed) {
+            None => None,
+            Some(port) => Some(port as u32),
+        }
+    }
+
+    /// The least port at which a message waits to be sent.
+    pub fn waiting(&self) -> Option<u32>
+        requires few { length self.now.outgoing ≤ 32 }
+        ensures { FirstWaiting self.now.outgoing result }
+    {
+        match self.outgoing.waiting() {
             None => None,
             Some(port) => Some(port as u32),
         }

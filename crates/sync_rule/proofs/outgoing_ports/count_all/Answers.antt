@@ -1,4 +1,4 @@
-use Rattle.std.proofs.Common.{◌≡◌, ◌≤◌, ◌++◌, ◌∷◌, [], sym, ap, ap₂, ◌∙◌, subst, arith, length, ◌+◌, map, take}
+use Rattle.std.proofs.Common.{◌≤◌, ◌++◌, ◌∷◌, [], sym, ap, ap₂, ◌∙◌, subst, arith, length, ◌+◌, map, take}
 use Rattle.std.proofs.lemmas.List.{map_push, take_more}
 use Rattle.sync_rule.specs.Ports.{Out}
 use Rattle.sync_rule.proofs.outgoing_ports.count_all.Goals as goal

@@ -1,4 +1,4 @@
-use Rattle.std.proofs.Common.{◌≡◌, refl, sym, ap, ◌∙◌, inr}
+use Rattle.std.proofs.Common.{sym, ap, ◌∙◌}
 use Rattle.sync_rule.specs.Ports.{Out}
 use Rattle.sync_rule.proofs.Steps.{passed}
 use Rattle.sync_rule.proofs.outgoing.Outgoing.pass_on.Goals as goal

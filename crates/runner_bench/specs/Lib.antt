@@ -1,0 +1,2 @@
+pub mod Ticker
+pub mod TickerLaws
