@@ -1,1 +1,15 @@
-pub mod Kept
+pub mod Changed
+pub mod Orders
+pub mod Rising
+pub mod Posts
+pub mod Ahead
+pub mod Reacted
+pub mod Events
+pub mod Started
+pub mod Passed
+pub mod Ends
+pub mod Begins
+pub mod Steps
+pub mod FirstWhole
+pub mod Stuck
+pub mod InARow

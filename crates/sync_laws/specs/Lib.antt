@@ -1,1 +1,4 @@
-pub mod Going
+pub mod Stands
+pub mod Whole
+pub mod GlobalRun
+pub mod InARow
