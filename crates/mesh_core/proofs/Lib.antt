@@ -1,0 +1,13 @@
+mod Ends
+mod Stepped
+mod Read
+mod Ended
+mod Built
+mod Kept
+mod Begun
+mod Keeping
+mod Runners
+mod Started
+mod Finished
+mod Outcomes
+mod Going

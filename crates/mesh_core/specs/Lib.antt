@@ -1,0 +1,7 @@
+pub mod State
+pub mod Steps
+pub mod Start
+pub mod MeshOf
+pub mod Laws
+pub mod Building
+pub mod Left

@@ -1,0 +1,36 @@
+//! What holds of a mesh however it is stepped.
+ghost use Rattle.mesh_core.specs.Laws.{StartsStanding, StepsKeepIt, LogsBegin, ListsBegin, LogsAreWhole, ListsAreWhole, LeavesLogs, LeavesCounts, NeverStuck};
+
+use device_api::Device;
+
+/// A new mesh is a mesh of its system.
+pub fn a_new_mesh_stands<V: Device>()
+    ensures { StartsStanding V.behaviour V.settled }
+{}
+
+/// A step that a mesh of a system makes leaves a mesh of that system. A new mesh is one, so that each mesh is, after
+/// whatever steps.
+pub fn each_step_keeps_a_mesh_standing<V: Device>()
+    ensures { StepsKeepIt V.behaviour V.settled }
+{}
+
+/// However a mesh is stepped: the log of each component begins its log of the global run, and what was sent on each
+/// channel begins the transcript of the global run's sends.
+pub fn a_mesh_begins_the_global_run<V: Device>()
+    ensures logs { LogsBegin V.behaviour V.settled }
+    ensures lists { ListsBegin V.behaviour V.settled }
+{}
+
+/// Where all components have ended each log is that of the global run, and what was sent on each channel is the
+/// transcript of the global run's sends. The outcome that a mesh then leaves is that of the global run.
+pub fn an_ended_mesh_is_the_global_run<V: Device>()
+    ensures logs { LogsAreWhole V.behaviour V.settled }
+    ensures lists { ListsAreWhole V.behaviour V.settled }
+    ensures leaves_logs { LeavesLogs V.behaviour V.settled }
+    ensures leaves_counts { LeavesCounts V.behaviour V.settled }
+{}
+
+/// Nothing is stuck: in each mesh of which not all components have ended some step is enabled.
+pub fn no_mesh_is_stuck<V: Device>()
+    ensures { NeverStuck V.behaviour V.settled }
+{}
