@@ -1,5 +1,5 @@
 -- The access that an act asks for is pending: a load, or a store, of that size.
-use Rattle.std.proofs.Common.{◌≡◌, ℕ, sym, subst}
+use Rattle.std.proofs.Common.{ℕ, sym, subst}
 use Rattle.rv32_core.specs.declared.act.Act.TheVariants as act
 use Rattle.rv32_core.specs.declared.pending.Pending.{Pending}
 use Rattle.rv32_core.specs.CoreState.{IsSize, IsAccess}

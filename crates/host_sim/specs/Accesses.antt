@@ -1,5 +1,5 @@
 -- An instruction's access to memory: to RAM and the host's own words at once, to devices by a message.
-use Rattle.std.specs.Prelude.{ℕ, ◌+◌, ◌-◌, ◌%◌, ◌^◌, Bool, true, false, ◌==◌, List, [], ◌∷◌, Option, Some, None, if◌then◌else◌}
+use Rattle.std.specs.Prelude.{ℕ, ◌+◌, ◌-◌, ◌%◌, ◌^◌, Bool, true, false, ◌==◌, [], ◌∷◌, Option, Some, None, if◌then◌else◌}
 use Rattle.std.specs.Int.{bytes_low_first}
 use Rattle.mem_proto.specs.declared.message.MemMsg.TheVariants as mem
 use Rattle.pcie_proto.specs.declared.from_host.HostMsg.TheVariants as host
@@ -9,7 +9,6 @@ use Rattle.device_api.specs.Behaviour.{Reaction}
 use Rattle.device_api.specs.World.{rest}
 use Rattle.rv32_core.specs.declared.act.Act.{Act}
 use Rattle.rv32_core.specs.declared.act.Act.TheVariants as act
-use Rattle.rv32_core.specs.CoreState.{CoreState}
 use Rattle.rv32_core.specs.Execution.{load_finished, store_finished}
 use Rattle.ram_map.specs.Contents.{is_within, loaded, stored}
 use Rattle.ram_map.specs.Places.{placed}

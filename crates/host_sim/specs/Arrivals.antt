@@ -1,14 +1,12 @@
 -- What comes from devices: completions, levels of interrupt lines, and reads and writes of RAM.
-use Rattle.std.specs.Prelude.{ℕ, ◌+◌, ◌-◌, Bool, true, false, ◌&&◌, ◌==◌, nat_le, List, [], ◌∷◌, ◌++◌, length, replicate, slice_set, codes, Option, Some, None, if◌then◌else◌}
+use Rattle.std.specs.Prelude.{ℕ, ◌-◌, Bool, true, false, ◌&&◌, ◌==◌, nat_le, List, [], ◌∷◌, ◌++◌, length, replicate, slice_set, codes, Some, if◌then◌else◌}
 use Rattle.std.specs.List.{list_any}
 use Rattle.cs_base.specs.Texts.{hexadecimal}
 use Rattle.mem_proto.specs.declared.message.MemMsg.{MemMsg}
 use Rattle.mem_proto.specs.declared.message.MemMsg.TheVariants as mem
 use Rattle.pcie_proto.specs.declared.from_device.DevMsg.{DevMsg}
 use Rattle.pcie_proto.specs.declared.from_device.DevMsg.TheVariants as dev
-use Rattle.pcie_proto.specs.declared.from_host.HostMsg.{HostMsg}
 use Rattle.pcie_proto.specs.declared.from_host.HostMsg.TheVariants as host
-use Rattle.sb_message.specs.declared.message.Body.{Body}
 use Rattle.sb_message.specs.declared.message.Body.TheVariants as body
 use Rattle.device_api.specs.Behaviour.{Reaction}
 use Rattle.device_api.specs.World.{rest}
@@ -17,7 +15,7 @@ use Rattle.rv32_core.specs.declared.pending.Pending.TheVariants as access
 use Rattle.rv32_core.specs.Execution.{wakes}
 use Rattle.ram_map.specs.Contents.{is_within, bytes_at, number_at, copied_in}
 use Rattle.host_sim.specs.declared.state.HostState.{HostState}
-use Rattle.host_sim.specs.declared.state.HostState.TheVariants.{Due, Access, Asleep, Halted}
+use Rattle.host_sim.specs.declared.state.HostState.TheVariants.{Access, Asleep}
 use Rattle.host_sim.specs.Machine.{Machine, due_after}
 use Rattle.host_sim.specs.Accesses.{after_load, after_store}
 

@@ -1,5 +1,5 @@
 -- The console, the halt and the trap: what a host logs, and how it ends.
-use Rattle.std.specs.Prelude.{ℕ, ◌+◌, ◌%◌, Bool, ◌&&◌, not, nat_le, ◌==◌, List, [], ◌∷◌, ◌++◌, length, codes, decimal, if◌then◌else◌}
+use Rattle.std.specs.Prelude.{ℕ, ◌+◌, Bool, ◌&&◌, not, nat_le, ◌==◌, List, [], ◌∷◌, ◌++◌, length, codes, decimal, if◌then◌else◌}
 use Rattle.std.specs.List.{flat_map}
 use Rattle.cs_base.specs.Texts.{hexadecimal, hex_pair}
 use Rattle.device_api.specs.Behaviour.{Reaction}

@@ -1,19 +1,16 @@
 -- The host: a device that runs an instruction each cycle, or takes an interrupt.
-use Rattle.std.specs.Prelude.{ℕ, ◌≡◌, ◌+◌, ◌-◌, ◌%◌, ◌^◌, ◌≤◌, Bool, nat_le, List, Option, Some, None, ⊤, if◌then◌else◌}
+use Rattle.std.specs.Prelude.{ℕ, ◌+◌, ◌-◌, ◌%◌, ◌^◌, ◌≤◌, nat_le, List, Option, None, if◌then◌else◌}
 use Rattle.sb_message.specs.declared.message.Body.{Body}
 use Rattle.sb_message.specs.declared.message.Body.TheVariants as body
 use Rattle.device_api.specs.Behaviour.{Reaction, Behaviour}
 use Rattle.device_api.specs.World.{rest}
-use Rattle.rv32_core.specs.declared.pending.Pending.{Pending}
-use Rattle.rv32_core.specs.declared.pending.Pending.TheVariants as access
 use Rattle.rv32_core.specs.Execution.{stepped, interrupted, takes_interrupt}
 use Rattle.ram_map.specs.Contents.{loaded}
-use Rattle.host_sim.specs.declared.state.HostState.{HostState}
-use Rattle.host_sim.specs.declared.state.HostState.TheVariants.{Due, Access, Asleep, Halted}
 use Rattle.host_sim.specs.Machine.{Machine, ports_of, due_of, due_after, with_core}
 use Rattle.host_sim.specs.Console.{traps}
 use Rattle.host_sim.specs.Accesses.{acts}
 use Rattle.host_sim.specs.Arrivals.{ram_base, takes_dev, takes_mem}
+use Rattle.host_sim.specs.Sound.{IsSound}
 
 -- instructions are in RAM alone
 abbrev pub fetched : List ℕ → ℕ → Option ℕ
@@ -48,13 +45,8 @@ takes s t port _ = rest s
 abbrev pub host : Behaviour Machine
 host = record { ports = λ s. ports_of s.map; due = λ s. due_of s.phase; take = takes; tick = ticks_once }
 
--- nothing is pending unless the host waits for a completion
-abbrev pub IsIdle : HostState → Pending → Type 0
-IsIdle (Access port id) pending = ⊤
-IsIdle _ pending = pending ≡ access.Nothing
-
 -- the facts of a host that stay as they are whatever it does; they depend on no time
 pub record IsSettledHost (s : Machine) (x : ℕ) : Type 0 where
   pub some_cycle : 1 ≤ s.cycle
   pub few_ports : s.map.pcie + s.map.mem ≤ 32
-  pub idle : IsIdle s.phase s.core.pending
+  pub sound : IsSound s

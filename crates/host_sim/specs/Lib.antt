@@ -2,5 +2,8 @@ pub mod Machine
 pub mod Console
 pub mod Accesses
 pub mod Arrivals
+pub mod Sound
+pub mod Parts
 pub mod Host
+pub mod HostKeeps
 pub mod HostLaws

@@ -14,7 +14,7 @@ use std::alloc::Global;
 const MTVEC: u32 = 0x305;
 
 /// How many bytes the console keeps before it logs them.
-const LONGEST: usize = 120;
+pub(crate) const LONGEST: usize = 120;
 
 fn is_plain(byte: u8) -> bool
     ensures { result ≡ is_plain byte }

@@ -2,6 +2,7 @@ ghost use Rattle.std.specs.Prelude.{◌≡◌, ◌≤◌, ◌<◌, ◌^◌, ◌+
 ghost use Rattle.rv32_core.specs.declared.pending.Pending.TheVariants as access;
 ghost use Rattle.rv32_core.specs.Execution.{takes_interrupt};
 ghost use Rattle.host_sim.specs.Machine.{started_with, map_of, due_after};
+ghost use Rattle.host_sim.specs.Parts.{IsOf};
 ghost use Rattle.host_sim.specs.Host.{fetched, instructs, interrupts, runs, ticks_once, IsSettledHost};
 
 use crate::levels::Levels;
@@ -22,7 +23,7 @@ const RAM: u32 = 0x8000_0000;
 /// The external interrupt's cause.
 const EXTERNAL: u32 = 0x8000_000B;
 
-fn sizes_of(config: &HostConfig) -> Map
+pub(crate) fn sizes_of(config: &HostConfig) -> Map
     ensures { result ≡ map_of config.now }
 {
     Map {
@@ -69,9 +70,11 @@ impl Model for Host {
 
 impl Host {
     /// A host that is due at 0, with the image at the beginning of its RAM.
+    #[tactic(auto, using(crate::specs::HostKeeps::started_sound))]
     pub fn start(alloc: Global, config: &HostConfig, image: &[u8]) -> Result<Host, NoMemory>
         requires { length image.now ≤ config.now.ram }
         ensures state { IfOk result (λ host. host ≡ started_with config.now image.now) }
+        ensures of_config { IfOk result (λ host. IsOf config.now host) }
         ensures at_start { IfOk result (λ host. IsSettledHost host 0) }
     {
         Ok(Host {

@@ -1,6 +1,7 @@
 ghost use Rattle.std.specs.Prelude.{◌≡◌, false, replicate, slice_set, length, IfOk};
 ghost use Rattle.host_sim.specs.Arrivals.{is_any_high};
 
+use cs_base::items::Items;
 use cs_base::no_memory::NoMemory;
 use std::alloc::Global;
 use std::marker::Model;
@@ -27,6 +28,27 @@ impl Levels {
         let mut high = Vec::new(alloc);
         high.resize(ports as usize, false)?;
         Ok(Levels { high })
+    }
+
+    pub(crate) fn from_items(levels: Items<bool>) -> Levels
+        ensures { result ≡ levels }
+    {
+        Levels {
+            high: levels.into_vec(),
+        }
+    }
+
+    pub(crate) fn into_items(self) -> Items<bool>
+        ensures { result ≡ self }
+    {
+        let Levels { high } = self;
+        Items::from_vec(high)
+    }
+
+    pub(crate) fn len(&self) -> usize
+        ensures { result ≡ length self.now }
+    {
+        self.high.len()
     }
 
     /// Sets the level of a port; of another number nothing.

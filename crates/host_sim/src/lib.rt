@@ -7,9 +7,12 @@ mod console;
 mod device;
 mod host;
 mod levels;
+mod parts;
+mod standing;
 mod state;
 #[cfg(test)]
 mod tests;
 
 pub use host::Host;
+pub use parts::HostParts;
 pub use state::HostState;

@@ -1,3 +1,4 @@
 pub mod Sizes
 pub mod Contents
 pub mod Places
+pub mod ContentsLaws

@@ -59,9 +59,10 @@ impl Ram {
     pub fn holds(&self, at: u64, size: u32) -> bool
         ensures { result ≡ is_within self.now at size }
     {
-        let len = self.bytes.len() as u64;
-        let size = u64::from(size);
-        size <= len && at <= len - size
+        match at.checked_add(u64::from(size)) {
+            Some(end) => end <= self.bytes.len() as u64,
+            None => false,
+        }
     }
 
     /// The number in 1, 2 or 4 bytes; `None` exactly where one of them is not there.

@@ -5,4 +5,5 @@ pub mod Alu
 pub mod Csr
 pub mod Execution
 pub mod Parts
+pub mod StepForms
 pub mod StepLaws

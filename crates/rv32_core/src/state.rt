@@ -146,6 +146,13 @@ impl Core {
         self.external = high;
     }
 
+    /// Whether the external interrupt line is high.
+    pub fn is_external_high(&self) -> bool
+        ensures { result ≡ self.now.external }
+    {
+        self.external
+    }
+
     /// Whether an interrupt that is enabled in `mie` is pending, whatever `mstatus` says.
     pub fn wakes(&self) -> bool
         ensures { result ≡ wakes self.now }

@@ -1,4 +1,4 @@
-use Rattle.std.proofs.Common.{◌≡◌, ℕ, ap}
+use Rattle.std.proofs.Common.{ap}
 use Rattle.std.proofs.Props.{props}
 use Rattle.cs_base.specs.declared.configs.HostConfig.{HostConfig}
 use Rattle.ram_map.specs.Sizes.{IsMap}
