@@ -2,6 +2,7 @@ use cs_base::{NoMemory, PortKind, Time};
 use device_api::{Beacon, Device, Effects};
 use host_sim::Host;
 use mem_sim::Memory;
+use nic_8254x::Nic;
 use sb_message::Body;
 use std::alloc::Global;
 use switch_sim::Switch;
@@ -13,6 +14,7 @@ pub enum AnyDevice {
     Switch(Switch),
     Memory(Memory),
     Host(Host),
+    Nic(Nic),
 }
 
 impl Device for AnyDevice {
@@ -29,6 +31,7 @@ impl Device for AnyDevice {
             AnyDevice::Switch(switch) => switch.ports(),
             AnyDevice::Memory(memory) => memory.ports(),
             AnyDevice::Host(host) => host.ports(),
+            AnyDevice::Nic(nic) => nic.ports(),
         }
     }
 
@@ -38,6 +41,7 @@ impl Device for AnyDevice {
             AnyDevice::Switch(switch) => switch.kind(port),
             AnyDevice::Memory(memory) => memory.kind(port),
             AnyDevice::Host(host) => host.kind(port),
+            AnyDevice::Nic(nic) => nic.kind(port),
         }
     }
 
@@ -48,6 +52,7 @@ impl Device for AnyDevice {
             AnyDevice::Switch(switch) => switch.due(),
             AnyDevice::Memory(memory) => memory.due(),
             AnyDevice::Host(host) => host.due(),
+            AnyDevice::Nic(nic) => nic.due(),
         }
     }
 
@@ -64,6 +69,7 @@ impl Device for AnyDevice {
             AnyDevice::Switch(switch) => switch.take(alloc, t, port, body, out),
             AnyDevice::Memory(memory) => memory.take(alloc, t, port, body, out),
             AnyDevice::Host(host) => host.take(alloc, t, port, body, out),
+            AnyDevice::Nic(nic) => nic.take(alloc, t, port, body, out),
         }
     }
 
@@ -74,6 +80,7 @@ impl Device for AnyDevice {
             AnyDevice::Switch(switch) => switch.tick(alloc, t, out),
             AnyDevice::Memory(memory) => memory.tick(alloc, t, out),
             AnyDevice::Host(host) => host.tick(alloc, t, out),
+            AnyDevice::Nic(nic) => nic.tick(alloc, t, out),
         }
     }
 

@@ -11,7 +11,7 @@ mod starts;
 pub use any_device::AnyDevice;
 pub use images::image_names;
 pub use start_bad::StartBad;
-pub use starts::{start, unserved};
+pub use starts::start;
 
 #[cfg(test)]
 mod tests;

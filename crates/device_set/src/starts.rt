@@ -1,9 +1,8 @@
 //! The devices of a topology at their start.
-ghost use Rattle.std.specs.Prelude.{◌≡◌, ◌++◌, ◌↔◌, ℕ, All, IfOk, IfSome, OnOk, None, Some, Err, true};
-ghost use Rattle.std.specs.Option.{option_to_list};
+ghost use Rattle.std.specs.Prelude.{◌≡◌, ◌↔◌, ℕ, All, IfOk, None, Some, Err, true};
 ghost use Rattle.device_set.specs.AnyKind.{IsSettledDevice};
 ghost use Rattle.device_set.specs.Images.{fits, too_long_from};
-ghost use Rattle.device_set.specs.Starts.{is_served, start_of, starts_of, first_unserved, unserved, too_long, AreStarted};
+ghost use Rattle.device_set.specs.Starts.{start_of, starts_of, too_long, AreStarted};
 ghost use Rattle.device_set.specs.declared.start_bad.StartBad.TheVariants.{ImageTooLong};
 
 use crate::any_device::AnyDevice;
@@ -13,72 +12,42 @@ use cs_base::{NoMemory, Octets};
 use device_api::Beacon;
 use host_sim::Host;
 use mem_sim::Memory;
+use nic_8254x::Nic;
 use std::alloc::Global;
 use switch_sim::Switch;
 use topology_file::{Component, Config, Topology};
 
-/// Whether there are devices of this kind.
-fn is_served(config: &Config) -> bool
-    ensures { result ≡ is_served config.now }
-{
-    !matches!(config, Config::Nic(_))
-}
-
-/// The device of a configuration at its start; None where its kind can't be served.
-fn start_one(alloc: Global, config: &Config, image: &[u8]) -> Result<Option<AnyDevice>, NoMemory>
+/// The device of a configuration at its start.
+fn start_one(alloc: Global, config: &Config, image: &[u8]) -> Result<AnyDevice, NoMemory>
     requires { fits config.now image.now ≡ true }
     ensures started { IfOk result (λ device. device ≡ start_of config.now image.now) }
-    ensures at_start { IfOk result (λ device. IfSome device (λ device. IsSettledDevice device 0)) }
+    ensures at_start { IfOk result (λ device. IsSettledDevice device 0) }
 {
     match config {
         Config::Beacon(config) => {
             let beacon = Beacon::start(alloc, config)?;
-            Ok(Some(AnyDevice::Beacon(beacon)))
+            Ok(AnyDevice::Beacon(beacon))
         }
         Config::Switch(config) => {
             let switch = Switch::start(alloc, config)?;
-            Ok(Some(AnyDevice::Switch(switch)))
+            Ok(AnyDevice::Switch(switch))
         }
         Config::Memory(config) => {
             let memory = Memory::start(alloc, config)?;
-            Ok(Some(AnyDevice::Memory(memory)))
+            Ok(AnyDevice::Memory(memory))
         }
         Config::Host(config) => {
             let host = Host::start(alloc, config, image)?;
-            Ok(Some(AnyDevice::Host(host)))
+            Ok(AnyDevice::Host(host))
         }
-        Config::Nic(_) => Ok(None),
+        Config::Nic(config) => {
+            let nic = Nic::start(alloc, config)?;
+            Ok(AnyDevice::Nic(nic))
+        }
     }
 }
 
-/// The place of the first component whose kind can't be served.
-fn first_unserved(components: &[Component]) -> Option<usize>
-    ensures { result ≡ first_unserved components.now }
-{
-    components
-        .iter()
-        .position(|component| !is_served(&component.config))
-}
-
-/// The first component whose kind can't be served, by its number.
-pub fn unserved(topology: &Topology) -> Option<u32>
-    ensures { result ≡ unserved topology.now }
-{
-    let place = first_unserved(topology.components.as_slice())?;
-    Some(place as u32)
-}
-
-/// Puts a device, if there is one, behind others.
-fn add(devices: &mut Vec<AnyDevice>, device: Option<AnyDevice>) -> Result<(), NoMemory>
-    ensures { OnOk result (devices.new.items ≡ devices.old.items ++ option_to_list device) }
-{
-    if let Some(device) = device {
-        devices.push(device)?;
-    }
-    Ok(())
-}
-
-/// The devices at their start, of the components that can be served.
+/// The devices at their start.
 fn start_all(
     alloc: Global,
     components: &[Component],
@@ -92,7 +61,7 @@ fn start_all(
     let mut left = images;
     for component in components {
         let device = start_one(alloc, &component.config, next_image(left))?;
-        add(&mut devices, device)?;
+        devices.push(device)?;
         left = images_after(&component.config, left);
     }
     Ok(devices)
@@ -105,7 +74,6 @@ pub fn start(
     topology: &Topology,
     images: Vec<Octets>,
 ) -> Result<Vec<AnyDevice>, StartBad>
-    requires served { unserved topology.now ≡ None }
     ensures started { IfOk result (λ devices. AreStarted topology.now images.items devices.items) }
     ensures refused { (component : ℕ) → (result ≡ Err (ImageTooLong component))
         ↔ (too_long topology.now images.items ≡ Some component) }

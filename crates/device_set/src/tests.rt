@@ -1,8 +1,5 @@
-//! That the devices of a topology are started, which components are not served, and which programs are too long.
-ghost use Rattle.std.specs.Prelude.{◌≡◌, None};
-ghost use Rattle.device_set.specs.Starts.{unserved};
-
-use crate::{AnyDevice, StartBad, start, unserved};
+//! That the devices of a topology are started, and which programs are too long.
+use crate::{AnyDevice, StartBad, start};
 use cs_base::{NoMemory, Octets};
 use device_api::Device;
 use std::alloc::Global;
@@ -79,21 +76,19 @@ image = "y"
 #[test]
 fn a_beacon_and_a_switch_are_started(rt: HostRuntime) -> Result<(), Fail> {
     let topology = read(rt.alloc(), BEACON_AND_SWITCH.as_bytes())?;
-    assert!(rt; unserved(&topology).is_none());
-    if unserved(&topology).is_none() {
-        let devices = start(rt.alloc(), &topology, Vec::new(rt.alloc()))?;
-        assert_eq!(rt; devices.len(), 2);
-        for device in &devices {
-            assert_eq!(rt; device.ports(), 1);
-        }
+    let devices = start(rt.alloc(), &topology, Vec::new(rt.alloc()))?;
+    assert_eq!(rt; devices.len(), 2);
+    for device in &devices {
+        assert_eq!(rt; device.ports(), 1);
     }
     Ok(())
 }
 
 #[test]
-fn an_adapter_is_not_served(rt: HostRuntime) -> Result<(), Fail> {
+fn an_adapter_is_started(rt: HostRuntime) -> Result<(), Fail> {
     let topology = read(rt.alloc(), WITH_ADAPTER.as_bytes())?;
-    assert!(rt; unserved(&topology) == Some(1));
+    let devices = start(rt.alloc(), &topology, Vec::new(rt.alloc()))?;
+    assert!(rt; matches!(devices.as_slice(), [_, AnyDevice::Nic(_), _]));
     Ok(())
 }
 
@@ -139,9 +134,7 @@ fn image(alloc: Global, len: usize) -> Result<Octets, NoMemory> {
 }
 
 /// Whose program is told to be too long; None where the devices are started.
-fn too_long(alloc: Global, topology: &Topology, case: &Case) -> Result<Option<u32>, Fail>
-    requires { unserved topology.now ≡ None }
-{
+fn too_long(alloc: Global, topology: &Topology, case: &Case) -> Result<Option<u32>, Fail> {
     let mut images = Vec::new(alloc);
     images.push(image(alloc, case.first)?)?;
     images.push(image(alloc, case.second)?)?;
@@ -155,12 +148,9 @@ fn too_long(alloc: Global, topology: &Topology, case: &Case) -> Result<Option<u3
 #[test]
 fn a_program_fits_into_ram_or_is_refused(rt: HostRuntime) -> Result<(), Fail> {
     let topology = read(rt.alloc(), TWO_HOSTS.as_bytes())?;
-    assert!(rt; unserved(&topology).is_none());
-    if unserved(&topology).is_none() {
-        for case in &CASES {
-            let told = too_long(rt.alloc(), &topology, case)?;
-            assert!(rt; told == case.too_long, "{} {}", case.first, case.second);
-        }
+    for case in &CASES {
+        let told = too_long(rt.alloc(), &topology, case)?;
+        assert!(rt; told == case.too_long, "{} {}", case.first, case.second);
     }
     Ok(())
 }

@@ -20,7 +20,7 @@ pub(crate) const PCIE: u32 = 0;
 pub(crate) const ETHERNET: u32 = 1;
 
 /// An adapter of the Intel 8254x family.
-#[derive(Drop)]
+#[derive(Debug, Drop)]
 pub struct Nic {
     pub(crate) regs: Regs,
     pub(crate) queue: Frames,

@@ -19,7 +19,7 @@ pub enum RegAct {
 }
 
 /// The registers of an adapter, and the configured address that a reset restores.
-#[derive(Drop)]
+#[derive(Debug, Drop)]
 pub struct Regs {
     parts: RegsParts,
     mac: Mac,

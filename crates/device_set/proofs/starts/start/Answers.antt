@@ -4,7 +4,7 @@ use Rattle.device_set.specs.AnyKind.{any_device}
 use Rattle.device_set.specs.Images.{too_long_from}
 use Rattle.device_set.specs.Starts.{starts_of}
 use Rattle.device_set.specs.declared.start_bad.StartBad.TheVariants.{ImageTooLong}
-use Rattle.device_set.proofs.Starting.{IsStarted, all_served, ports-starts_of}
+use Rattle.device_set.proofs.Starting.{IsStarted, ports-starts_of}
 use Rattle.device_set.proofs.starts.start.Goals as goal
 
 never_both : {T E P : Type 0} (x : T) (e : E) → ◌≡◌ {A = Result T E} (Ok x) (Err e) → P
@@ -21,7 +21,7 @@ returns c =
       started = record {
         starts = starts;
         at_start = at_start;
-        matches = ap (map any_device.ports) starts ∙ ports-starts_of t.components images (all_served t.components c.requires.served) ∙ sym t.valid.kinds_of_ports;
+        matches = ap (map any_device.ports) starts ∙ ports-starts_of t.components images ∙ sym t.valid.kinds_of_ports;
       };
       refused = λ component. (never_both c.in_ok-start_all.field-0 (ImageTooLong component), λ is. absurd (c.in_default.not-Some component (told ∙ is)));
     }

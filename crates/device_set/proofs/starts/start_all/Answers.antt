@@ -1,6 +1,4 @@
-use Rattle.std.proofs.Common.{rules, ◌≡◌, ◌+◌, ◌∷◌, ◌++◌, ◌∙◌, ℕ, List, drop, sym, ap, true}
-use Rattle.std.specs.Prelude.{IfSome}
-use Rattle.std.specs.Option.{option_to_list}
+use Rattle.std.proofs.Common.{rules, ◌≡◌, ◌+◌, ◌∷◌, ◌++◌, ◌∙◌, ℕ, List, [], drop, sym, ap, true}
 use Rattle.std.proofs.Math.Seq.{drop-cons}
 use Rattle.device_set.specs.Images.{fits, next_image, too_long_from}
 use Rattle.device_set.specs.Starts.{start_of, starts_of}
@@ -17,11 +15,11 @@ loop-component-preserved c =
     let fit : fits item.config (next_image left) ≡ true = none_too_long components left n item split c.loop-component.invariant.fit in
     let told : c.in_ok-device.device ≡ start_of item.config c.next_image.result.now = search rules in
     let is : c.in_ok-device.device ≡ start_of item.config (next_image left) = told ∙ ap (λ (image : List ℕ). start_of item.config image) c.next_image.ensures in
-    let settled : IfSome c.in_ok-device.device IsStarted = search rules in
-    let added : c.add.new.devices.items ≡ c.loop-component.devices.items ++ option_to_list c.in_ok-device.device = search rules in
+    let settled : IsStarted c.in_ok-device.device = search rules in
+    let added : c.push.new.self.items ≡ c.loop-component.devices.items ++ c.in_ok-device.device ∷ [] = search rules in
     record {
-      started = one_started components c.args.images.now left n item c.in_ok-device.device c.loop-component.devices.items c.add.new.devices.items split is c.loop-component.invariant.started added ∙ ap (λ (images : List (List ℕ)). c.add.new.devices.items ++ starts_of (drop (n + 1) components) images) (sym c.images_after-left.ensures);
-      at_start = one_settled c.loop-component.devices.items c.add.new.devices.items c.in_ok-device.device c.loop-component.invariant.at_start settled added;
+      started = one_started components c.args.images.now left n item c.in_ok-device.device c.loop-component.devices.items c.push.new.self.items split is c.loop-component.invariant.started added ∙ ap (λ (images : List (List ℕ)). c.push.new.self.items ++ starts_of (drop (n + 1) components) images) (sym c.images_after-left.ensures);
+      at_start = one_settled c.loop-component.devices.items c.push.new.self.items c.in_ok-device.device c.loop-component.invariant.at_start settled added;
       fit = ap (λ (images : List (List ℕ)). too_long_from (n + 1) (drop (n + 1) components) images) c.images_after-left.ensures ∙ sym (one_fits components left n item split fit) ∙ c.loop-component.invariant.fit;
     }
 
