@@ -32,6 +32,7 @@ mod written;
 pub use component::Component;
 pub use config::Config;
 pub use laws::one_topology;
+pub use ports::kinds_of;
 pub use printer::print;
 pub use reader::read;
 pub use reason::{Entry, TopoBad, TopoReason};

@@ -47,11 +47,8 @@ pub(crate) fn ports_of(alloc: Global, config: &Config) -> Result<Items<PortKind>
     }
 }
 
-/// The kinds of the ports of each component.
-pub(crate) fn kinds_of(
-    alloc: Global,
-    components: &[Component],
-) -> Result<Items<Items<PortKind>>, NoMemory>
+/// The kinds of the ports of each component, in order.
+pub fn kinds_of(alloc: Global, components: &[Component]) -> Result<Items<Items<PortKind>>, NoMemory>
     ensures { IfOk result (λ kinds. kinds ≡ kinds_of components.now) }
 {
     let mut kinds = Items::new(alloc);

@@ -5,33 +5,9 @@ use crate::LineBad;
 use rv32_isa::Instr;
 use std::test::Fail;
 
-const LAYOUT: [Row; 16] = [
+const LAYOUT: [Row; 7] = [
     Row {
         line: "",
-        label: "",
-        seen: Seen::Nothing,
-        to: "",
-    },
-    Row {
-        line: "   ",
-        label: "",
-        seen: Seen::Nothing,
-        to: "",
-    },
-    Row {
-        line: " \t ",
-        label: "",
-        seen: Seen::Nothing,
-        to: "",
-    },
-    Row {
-        line: "#",
-        label: "",
-        seen: Seen::Nothing,
-        to: "",
-    },
-    Row {
-        line: "  # add x1, x2, x3",
         label: "",
         seen: Seen::Nothing,
         to: "",
@@ -69,47 +45,7 @@ const LAYOUT: [Row; 16] = [
         to: "",
     },
     Row {
-        line: "  add  x1 , x2  ,  x3  # there",
-        label: "",
-        seen: Seen::Instruction(Instr::Add {
-            rd: 1,
-            rs1: 2,
-            rs2: 3,
-        }),
-        to: "",
-    },
-    Row {
-        line: "add x1, x2, x3#there",
-        label: "",
-        seen: Seen::Instruction(Instr::Add {
-            rd: 1,
-            rs1: 2,
-            rs2: 3,
-        }),
-        to: "",
-    },
-    Row {
-        line: "lw x1,4(x2)",
-        label: "",
-        seen: Seen::Instruction(Instr::Lw {
-            rd: 1,
-            rs1: 2,
-            imm: 4,
-        }),
-        to: "",
-    },
-    Row {
         line: " lw x1 , 4 ( x2 ) ",
-        label: "",
-        seen: Seen::Instruction(Instr::Lw {
-            rd: 1,
-            rs1: 2,
-            imm: 4,
-        }),
-        to: "",
-    },
-    Row {
-        line: "\tlw\tx1\t,\t4\t(\tx2\t)\t# 5(x3)",
         label: "",
         seen: Seen::Instruction(Instr::Lw {
             rd: 1,
@@ -123,16 +59,6 @@ const LAYOUT: [Row; 16] = [
         label: "",
         seen: Seen::Jump(0),
         to: "there",
-    },
-    Row {
-        line: " nop ",
-        label: "",
-        seen: Seen::Instruction(Instr::Addi {
-            rd: 0,
-            rs1: 0,
-            imm: 0,
-        }),
-        to: "",
     },
 ];
 

@@ -4,37 +4,7 @@ use super::{BadRow, Row, Seen, check, check_bad};
 use crate::{Condition, LineBad};
 use std::test::Fail;
 
-const STATEMENTS: [Row; 15] = [
-    Row {
-        line: "beq x5, x6, there",
-        label: "",
-        seen: Seen::Branch(Condition::Equal, 5, 6),
-        to: "there",
-    },
-    Row {
-        line: "bne x5, x6, there",
-        label: "",
-        seen: Seen::Branch(Condition::NotEqual, 5, 6),
-        to: "there",
-    },
-    Row {
-        line: "blt x5, x6, there",
-        label: "",
-        seen: Seen::Branch(Condition::Less, 5, 6),
-        to: "there",
-    },
-    Row {
-        line: "bge x5, x6, there",
-        label: "",
-        seen: Seen::Branch(Condition::NotLess, 5, 6),
-        to: "there",
-    },
-    Row {
-        line: "bltu x5, x6, there",
-        label: "",
-        seen: Seen::Branch(Condition::LessUnsigned, 5, 6),
-        to: "there",
-    },
+const STATEMENTS: [Row; 9] = [
     Row {
         line: "bgeu x5, x6, there",
         label: "",
@@ -78,12 +48,6 @@ const STATEMENTS: [Row; 15] = [
         to: "there",
     },
     Row {
-        line: ".word x1",
-        label: "",
-        seen: Seen::WordOf,
-        to: "x1",
-    },
-    Row {
         line: ".byte 7",
         label: "",
         seen: Seen::Byte(7),
@@ -97,13 +61,9 @@ const STATEMENTS: [Row; 15] = [
     },
 ];
 
-const FAULTS: [BadRow; 41] = [
+const FAULTS: [BadRow; 21] = [
     BadRow {
         line: "foo",
-        bad: LineBad::UnknownWord,
-    },
-    BadRow {
-        line: "foo x1, ,",
         bad: LineBad::UnknownWord,
     },
     BadRow {
@@ -119,27 +79,7 @@ const FAULTS: [BadRow; 41] = [
         bad: LineBad::UnknownWord,
     },
     BadRow {
-        line: "_",
-        bad: LineBad::UnknownWord,
-    },
-    BadRow {
-        line: ".",
-        bad: LineBad::UnknownWord,
-    },
-    BadRow {
-        line: "addi-5 x1",
-        bad: LineBad::BadLine,
-    },
-    BadRow {
         line: "foo-bar",
-        bad: LineBad::BadLine,
-    },
-    BadRow {
-        line: "foo \u{e9}",
-        bad: LineBad::BadLine,
-    },
-    BadRow {
-        line: "foo\r",
         bad: LineBad::BadLine,
     },
     BadRow {
@@ -147,31 +87,7 @@ const FAULTS: [BadRow; 41] = [
         bad: LineBad::BadLine,
     },
     BadRow {
-        line: "nop \"",
-        bad: LineBad::BadLine,
-    },
-    BadRow {
-        line: "\u{e9}",
-        bad: LineBad::BadLine,
-    },
-    BadRow {
-        line: "nop \u{e9}",
-        bad: LineBad::BadLine,
-    },
-    BadRow {
-        line: ", nop",
-        bad: LineBad::BadLine,
-    },
-    BadRow {
-        line: "(nop)",
-        bad: LineBad::BadLine,
-    },
-    BadRow {
         line: "add x1, x2",
-        bad: LineBad::BadLine,
-    },
-    BadRow {
-        line: "add x1, x2, x3, x4",
         bad: LineBad::BadLine,
     },
     BadRow {
@@ -179,27 +95,7 @@ const FAULTS: [BadRow; 41] = [
         bad: LineBad::BadLine,
     },
     BadRow {
-        line: "add x1,, x2, x3",
-        bad: LineBad::BadLine,
-    },
-    BadRow {
         line: "add x1, x2, x3,",
-        bad: LineBad::BadLine,
-    },
-    BadRow {
-        line: "add",
-        bad: LineBad::BadLine,
-    },
-    BadRow {
-        line: "nop x1",
-        bad: LineBad::BadLine,
-    },
-    BadRow {
-        line: "lw x1, 4",
-        bad: LineBad::BadLine,
-    },
-    BadRow {
-        line: "lw x1, (x2)",
         bad: LineBad::BadLine,
     },
     BadRow {
@@ -207,43 +103,11 @@ const FAULTS: [BadRow; 41] = [
         bad: LineBad::BadLine,
     },
     BadRow {
-        line: "lw x1, 4 x2)",
-        bad: LineBad::BadLine,
-    },
-    BadRow {
         line: "lw x1, 4(x2) x3",
         bad: LineBad::BadLine,
     },
     BadRow {
-        line: "add x1, x2, 3(x4)",
-        bad: LineBad::BadLine,
-    },
-    BadRow {
-        line: "j 5",
-        bad: LineBad::BadLine,
-    },
-    BadRow {
-        line: "j a-b",
-        bad: LineBad::BadLine,
-    },
-    BadRow {
-        line: "j 5a",
-        bad: LineBad::BadLine,
-    },
-    BadRow {
         line: "j a.b",
-        bad: LineBad::BadLine,
-    },
-    BadRow {
-        line: ".word",
-        bad: LineBad::BadLine,
-    },
-    BadRow {
-        line: ".word -",
-        bad: LineBad::BadLine,
-    },
-    BadRow {
-        line: ".word a.b",
         bad: LineBad::BadLine,
     },
     BadRow {
@@ -255,19 +119,7 @@ const FAULTS: [BadRow; 41] = [
         bad: LineBad::BadLine,
     },
     BadRow {
-        line: "addi x1, x2, x3",
-        bad: LineBad::BadLine,
-    },
-    BadRow {
         line: "sw x1, x2",
-        bad: LineBad::BadLine,
-    },
-];
-
-// Several faults in one line.
-const LEAST: [BadRow; 14] = [
-    BadRow {
-        line: "add x1, x2, -",
         bad: LineBad::BadLine,
     },
     BadRow {
@@ -283,27 +135,7 @@ const LEAST: [BadRow; 14] = [
         bad: LineBad::UnknownWord,
     },
     BadRow {
-        line: "csrrwi x40, mip, 32",
-        bad: LineBad::BadRegister,
-    },
-    BadRow {
         line: "addi x40, x1, 5000",
-        bad: LineBad::BadRegister,
-    },
-    BadRow {
-        line: "addi x1, x40, x1",
-        bad: LineBad::BadLine,
-    },
-    BadRow {
-        line: "csrrw x1, 5000, x40",
-        bad: LineBad::BadRegister,
-    },
-    BadRow {
-        line: "sw x40, 5000(x1)",
-        bad: LineBad::BadRegister,
-    },
-    BadRow {
-        line: "lw x1, 5000(x40)",
         bad: LineBad::BadRegister,
     },
     BadRow {
@@ -311,15 +143,7 @@ const LEAST: [BadRow; 14] = [
         bad: LineBad::BadLine,
     },
     BadRow {
-        line: "beq x40, x1, there",
-        bad: LineBad::BadRegister,
-    },
-    BadRow {
         line: "jal x40, there",
-        bad: LineBad::BadRegister,
-    },
-    BadRow {
-        line: "li x40, 0x100000000",
         bad: LineBad::BadRegister,
     },
 ];
@@ -327,17 +151,6 @@ const LEAST: [BadRow; 14] = [
 #[test]
 fn statements(rt: HostRuntime) -> Result<(), Fail> {
     check(&rt, rt.alloc(), &STATEMENTS)?;
-    Ok(())
-}
-
-#[test]
-fn faults(rt: HostRuntime) -> Result<(), Fail> {
     check_bad(&rt, rt.alloc(), &FAULTS)?;
-    Ok(())
-}
-
-#[test]
-fn least(rt: HostRuntime) -> Result<(), Fail> {
-    check_bad(&rt, rt.alloc(), &LEAST)?;
     Ok(())
 }

@@ -3,41 +3,6 @@ use super::*;
 use cs_base::Octets;
 use std::test::Fail;
 
-/// Two beacons and a link, with every usual value.
-const BEACONS: &str = r#"end = 2600
-version = 1
-
-[[component]]
-count = 2
-first = 1000
-from = "02:00:00:00:00:01"
-kind = "beacon"
-length = 60
-name = "a"
-period = 1000
-to = "ff:ff:ff:ff:ff:ff"
-
-[[component]]
-count = 0
-first = 0
-from = "02:00:00:00:00:02"
-kind = "beacon"
-length = 60
-name = "b"
-period = 1000000
-to = "ff:ff:ff:ff:ff:ff"
-
-[[link]]
-a = "a"
-a_port = 0
-b = "b"
-b_port = 0
-interval = 500
-latency = 500
-slots = 64
-via = "queue"
-"#;
-
 const NO_PORTS: &str = "[[component]]\nname = \"s\"\nkind = \"switch\"\nports = 0\n";
 
 /// A switch without ports, and no link.
@@ -121,16 +86,6 @@ via = "queue"
 fn printed(alloc: Global, document: &[u8]) -> Result<Octets, TopoBad> {
     let topology = read(alloc, document)?;
     Ok(print(alloc, &topology)?)
-}
-
-#[test]
-fn usual_values_are_written_out(rt: HostRuntime) -> Result<(), Fail> {
-    let document = text(rt.alloc(), &[TOP, A, B, LINK])?;
-    let once = printed(rt.alloc(), document.as_bytes())?;
-    assert!(rt; once.as_slice() == BEACONS.as_bytes());
-    let twice = printed(rt.alloc(), once.as_slice())?;
-    assert!(rt; twice.as_slice() == once.as_slice());
-    Ok(())
 }
 
 #[test]

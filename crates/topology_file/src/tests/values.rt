@@ -23,21 +23,3 @@ fn links_with_values(rt: HostRuntime) -> Result<(), Fail> {
     );
     Ok(())
 }
-
-/// The image and the cycle of a host.
-fn host_values(component: Option<&Component>) -> Option<(&str, Time)> {
-    match &component?.config {
-        Config::Host(host) => Some((host.image.as_str(), host.cycle)),
-        _ => None,
-    }
-}
-
-#[test]
-fn components_with_values(rt: HostRuntime) -> Result<(), Fail> {
-    let text = text(rt.alloc(), &ALL_KINDS)?;
-    let topology = read(rt.alloc(), text.as_bytes())?;
-    let first = topology.components.as_slice().first();
-    assert_eq!(rt; host_values(first), Some(("x", Time(10_000))));
-    assert_eq!(rt; topology.wiring.end, Time(2600));
-    Ok(())
-}
