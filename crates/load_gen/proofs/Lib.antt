@@ -1,0 +1,4 @@
+pub mod Checked
+pub mod Systems
+pub mod Growing
+pub mod Pinging
