@@ -1,23 +1,22 @@
 -- What a command can take isn't refused.
 use Rattle.std.proofs.Common.{ℕ, ◌≡◌, List, Option, Some, None, Ok, Err, [], ◌∷◌, refl, sym, ap, ap₂, ◌∙◌, subst, inl, inr, arith}
-use Rattle.std.specs.Prelude.{◌⊎◌}
 use Rattle.std.specs.List.{AllZip}
-use Rattle.cs_base.specs.Outside.{FilesSeen, IsTold, Rose}
+use Rattle.cs_base.specs.Outside.{FilesSeen, IsTold}
 use Rattle.toml.specs.Data.{Members, table}
 use Rattle.topology_file.specs.declared.topology.Topology.{Topology}
 use Rattle.topology_file.specs.Reading.{IsTopologyText}
 use Rattle.topology_file.specs.Refusals.{refusal}
 use Rattle.topology_file.proofs.OneTopology.{one_topology}
 use Rattle.device_set.specs.Images.{image_names}
-use Rattle.device_set.specs.Starts.{unserved, too_long}
+use Rattle.device_set.specs.Starts.{too_long}
 use Rattle.cosim_cmd.specs.declared.refusal.OutputBad.{OutputBad}
 use Rattle.cosim_cmd.specs.declared.refusal.OutputBad.TheVariants as bad
 use Rattle.cosim_cmd.specs.declared.refusal.Refusal.{Refusal}
 use Rattle.cosim_cmd.specs.declared.refusal.Refusal.TheVariants as refused
 use Rattle.cosim_cmd.specs.NoTopology.{IsNoTopology}
-use Rattle.cosim_cmd.specs.Sentence.{Text, Sentence, Check, Model, Asm, sentence_of, file_of}
-use Rattle.cosim_cmd.specs.Inputs.{Inputs, OfSentence, AreFurther, HasRead}
-use Rattle.cosim_cmd.specs.Outputs.{LacksTopology, LacksDevice, LacksHostRoom, LacksProgram, Accepts}
+use Rattle.cosim_cmd.specs.Sentence.{Text, Sentence, Check, Model, Asm, file_of}
+use Rattle.cosim_cmd.specs.Inputs.{Inputs, AreFurther, HasRead}
+use Rattle.cosim_cmd.specs.Outputs.{LacksTopology, LacksHostRoom, LacksProgram, Accepts}
 use Rattle.cosim_cmd.specs.Refusals.{status_of, output_status}
 use Rattle.cosim_cmd.specs.Local.{OfFile, IsOutputBad, IsRefusal, IsAccepted, Stays}
 
@@ -33,14 +32,6 @@ has_topology : (s : Sentence) (inputs : Inputs) (line : List ℕ) → Accepts s 
 has_topology (Check file) inputs line accepted lacks = no_topology inputs.text line accepted.0 accepted.1 lacks
 has_topology (Model file) inputs line accepted lacks = no_topology inputs.text line accepted.topology accepted.spelled lacks
 has_topology (Asm file) inputs line accepted lacks = lacks
-
--- each component can be served
-has_devices : (s : Sentence) (inputs : Inputs) (line : List ℕ) → Accepts s inputs → LacksDevice s inputs.text line → ⊥
-has_devices (Check file) inputs line accepted lacks = lacks
-has_devices (Model file) inputs line accepted lacks =
-    let same : accepted.topology ≡ lacks.topology = one_topology inputs.text accepted.topology lacks.topology accepted.spelled lacks.spelled in
-    let clash : None ≡ Some lacks.component = sym accepted.served ∙ ap (λ (t : Topology). unserved t) same ∙ lacks.unserved_is in cc
-has_devices (Asm file) inputs line accepted lacks = lacks
 
 -- the programs fit
 has_room : (s : Sentence) (inputs : Inputs) (line : List ℕ) → Accepts s inputs → LacksHostRoom s inputs line → ⊥
@@ -98,7 +89,6 @@ module _ (before after : FilesSeen) (s : Sentence) (inputs : Inputs) (names : Li
       let same : why.inputs ≡ inputs = same_inputs s before after why.inputs inputs why.read told names further more_told in
       absurd (has_room s inputs line accepted (subst (λ (i : Inputs). LacksHostRoom s i line) same why.fact))
   made (bad.Asm line) why stays = absurd (has_program s inputs line accepted (of_text (λ bytes. LacksProgram s bytes line) why))
-  made (bad.NotBuilt line) why stays = absurd (has_devices s inputs line accepted (of_text (λ bytes. LacksDevice s bytes line) why))
 
 -- a command that can take its files is refused for want of memory alone, where no read and no write fails
 pub answered : (words : List Text) (before after : FilesSeen) (refusal : Refusal) → IsRefusal words before after refusal → (refusal ≡ refused.Out → ⊥) → IsAccepted words before.held → Stays before.faults after.faults → status_of refusal ≡ 1
@@ -120,4 +110,3 @@ is_out (refused.NoOutput (bad.File line)) status = absurd (omega (arith, status)
 is_out (refused.NoOutput (bad.Topology line)) status = absurd (omega (arith, status))
 is_out (refused.NoOutput (bad.Image line)) status = absurd (omega (arith, status))
 is_out (refused.NoOutput (bad.Asm line)) status = absurd (omega (arith, status))
-is_out (refused.NoOutput (bad.NotBuilt line)) status = absurd (omega (arith, status))

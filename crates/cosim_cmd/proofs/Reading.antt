@@ -2,13 +2,12 @@
 use Rattle.std.proofs.Common.{◌≡◌, ℕ, suc, ◌+◌, ◌<◌, List, [], ◌∷◌, ◌++◌, take, drop, length, get_or, Option, Some, None, refl, ap, sym, ◌∙◌, subst, inl, inr, append-nil, append_assoc, arith}
 use Rattle.std.proofs.Math.Seq.{take-suc}
 use Rattle.std.proofs.lemmas.List.{take-append-drop}
-use Rattle.std.specs.Prelude.{◌⊎◌, option_map}
+use Rattle.std.specs.Prelude.{option_map}
 use Rattle.std.specs.List.{AllZip}
 use Rattle.cs_base.specs.Outside.{FilesSeen, IsTold, Rose}
 use Rattle.topology_file.specs.declared.topology.Topology.{Topology}
 use Rattle.topology_file.specs.Reading.{IsTopologyText}
 use Rattle.device_set.specs.Images.{image_names}
-use Rattle.device_set.specs.Starts.{unserved}
 use Rattle.cosim_cmd.specs.declared.refusal.Fault.{Fault}
 use Rattle.cosim_cmd.specs.declared.refusal.Fault.TheVariants as fault
 use Rattle.cosim_cmd.specs.declared.refusal.ModelBad.{ModelBad}
@@ -22,7 +21,7 @@ use Rattle.cosim_cmd.specs.Said.{said}
 use Rattle.cosim_cmd.specs.Check.{IsChecked}
 use Rattle.cosim_cmd.specs.Asm.{IsAssembled}
 use Rattle.cosim_cmd.specs.Sentence.{Text, Sentence, Check, Model, Asm, file_of}
-use Rattle.cosim_cmd.specs.Inputs.{Inputs, AreFurther, AsksNothing, AsksFor, AsksAtMost, AsksBeginning, IsBeginning, IsReadAs, IsUnreadAs, AreTold, AreRead, IsOneUnread, AreNext, AsksInOrder, AsksAtMostInOrder, HasRead, last_of, IsUnread}
+use Rattle.cosim_cmd.specs.Inputs.{Inputs, AreFurther, AsksNothing, AsksFor, AsksAtMost, AsksBeginning, IsReadAs, IsUnreadAs, AreTold, AreRead, IsOneUnread, AsksAtMostInOrder, last_of}
 use Rattle.cosim_cmd.specs.Model.{OfImages, IsModelled, IsLogged, IsTooLong, IsModelBad, AsksForImages}
 use Rattle.cosim_cmd.specs.Outputs.{IsOutput, LacksHostRoom}
 use Rattle.cosim_cmd.specs.Local.{OfRest, OfInputs, Lacks, AsksFurther, IsOutputBad}
@@ -133,7 +132,6 @@ module _ (s : Sentence) (before mid after : FilesSeen) (bytes : List ℕ) (kept 
   lacks (bad.Topology line) lacking = record { bytes = bytes; read = read_alone lacking.1; fact = lacking.0 }
   lacks (bad.Image line) lacking = of_inputs (λ inputs. LacksHostRoom s inputs line) lacking
   lacks (bad.Asm line) lacking = record { bytes = bytes; read = read_alone lacking.1; fact = lacking.0 }
-  lacks (bad.NotBuilt line) lacking = record { bytes = bytes; read = read_alone lacking.1; fact = lacking.0 }
 
   pub asks : AsksFurther (record { sentence = s; bytes = bytes }) mid after → AsksAtMostInOrder s before after
   asks (inl none) = inr (record { more = []; next = inl refl; asked = AsksFor-still (file_of s ∷ []) before mid after read.asked none })
@@ -173,7 +171,6 @@ module _ (file bytes : List ℕ) (before after : FilesSeen) where
   pub model_lacks : (bad : ModelBad) → IsModelBad bytes before after bad → Lacks (record { sentence = Model file; bytes = bytes }) before after (of_model bad)
   model_lacks model.NoMemory why = tt
   model_lacks (model.Topology line) why = why
-  model_lacks (model.NotBuilt line) why = why
   model_lacks (model.File line) why = record { names = why.names; are_further = why.are_images; unread = why.unread }
   model_lacks (model.Image line) why = record { names = why.names; are_further = why.are_images; more = why.images; read = why.read; fact = why.fact }
 
@@ -183,14 +180,14 @@ module _ (file bytes : List ℕ) (before after : FilesSeen) where
 
 -- ---- the programs of hosts
 
-module _ (bytes : List ℕ) (t : Topology) (spelled : IsTopologyText bytes t) (served : unserved t ≡ None) (names : List Text) (are : names ≡ image_names t.components) (before after : FilesSeen) where
+module _ (bytes : List ℕ) (t : Topology) (spelled : IsTopologyText bytes t) (names : List Text) (are : names ≡ image_names t.components) (before after : FilesSeen) where
   pub images_modelled : (images : List (List ℕ)) → AreRead names before after images → (text : List ℕ) → IsLogged t images text → OfImages bytes before after (λ images. IsModelled bytes images text)
   images_modelled images read text logged = record {
     names = names;
     are_images = record { topology = t; spelled = spelled; are_images = are };
     images = images;
     read = read;
-    fact = record { topology = t; spelled = spelled; served = served; fact = logged };
+    fact = record { topology = t; spelled = spelled; fact = logged };
   }
 
   pub images_long : (images : List (List ℕ)) → AreRead names before after images → (fault : Fault) → IsFault (IsTooLong t images) fault → IsModelBad bytes before after (of_image fault)
@@ -199,7 +196,7 @@ module _ (bytes : List ℕ) (t : Topology) (spelled : IsTopologyText bytes t) (s
     are_images = record { topology = t; spelled = spelled; are_images = are };
     images = images;
     read = read;
-    fact = record { topology = t; spelled = spelled; served = served; fact = is };
+    fact = record { topology = t; spelled = spelled; fact = is };
   }
   images_long images read fault.NoMemory is = tt
 

@@ -33,10 +33,6 @@ toml_line = codes "cosim: topology toml\n"
 abbrev pub topology_line : TopoReason → Entry → List ℕ
 topology_line reason entry = codes "cosim: topology " ++ reason_text reason ++ codes " at " ++ entry_text entry ++ 10 ∷ []
 
--- about a component that can't be served yet
-abbrev pub not_built_line : ℕ → List ℕ
-not_built_line i = codes "cosim: not built " ++ entry_text (Component i) ++ 10 ∷ []
-
 -- about a host whose program is too long
 abbrev pub image_line : List ℕ → List ℕ
 image_line name = codes "cosim: image " ++ name ++ 10 ∷ []

@@ -8,7 +8,7 @@ use Rattle.cosim_cmd.specs.declared.refusal.Refusal.{Refusal}
 use Rattle.cosim_cmd.specs.declared.refusal.Refusal.TheVariants as refused
 use Rattle.cosim_cmd.specs.Sentence.{Text, Sentence, sentence_of, file_of}
 use Rattle.cosim_cmd.specs.Inputs.{Inputs, AreFurther, OfSentence, AsksNothing, AsksBeginning, IsReadAs, AreRead, IsOneUnread, HasRead, IsUnread}
-use Rattle.cosim_cmd.specs.Outputs.{IsOutput, LacksTopology, LacksDevice, LacksHostRoom, LacksProgram, Accepts}
+use Rattle.cosim_cmd.specs.Outputs.{IsOutput, LacksTopology, LacksHostRoom, LacksProgram, Accepts}
 use Rattle.cosim_cmd.specs.Refusals.{status_of, line_of}
 use Rattle.cosim_cmd.specs.Written.{IsWhole, IsCut, IsAttempted}
 
@@ -39,7 +39,6 @@ Lacks task before after (bad.File line) = IsFurtherUnread task before after line
 Lacks task before after (bad.Topology line) = LacksTopology task.sentence task.bytes line × AsksNothing before after
 Lacks task before after (bad.Image line) = OfRest task before after (λ inputs. LacksHostRoom task.sentence inputs line)
 Lacks task before after (bad.Asm line) = LacksProgram task.sentence task.bytes line × AsksNothing before after
-Lacks task before after (bad.NotBuilt line) = LacksDevice task.sentence task.bytes line × AsksNothing before after
 
 -- the first ones of the other files were asked for
 pub record AsksForSome (task : Task) (before after : FilesSeen) : Type 0 where
@@ -75,7 +74,6 @@ IsOutputBad s before after (bad.File line) = IsUnread s before after line
 IsOutputBad s before after (bad.Topology line) = OfFile s before after (λ bytes. LacksTopology s bytes line)
 IsOutputBad s before after (bad.Image line) = OfInputs s before after (λ inputs. LacksHostRoom s inputs line)
 IsOutputBad s before after (bad.Asm line) = OfFile s before after (λ bytes. LacksProgram s bytes line)
-IsOutputBad s before after (bad.NotBuilt line) = OfFile s before after (λ bytes. LacksDevice s bytes line)
 
 -- the words are a sentence, and the text is its output
 abbrev pub IsOutputOf : List Text → FilesSeen → FilesSeen → List ℕ → Type 0

@@ -9,9 +9,9 @@ use Rattle.topology_file.specs.Ports.{names_of}
 use Rattle.topology_file.specs.Reading.{IsTopologyText}
 use Rattle.device_set.specs.declared.any_device.AnyDevice.{AnyDevice}
 use Rattle.device_set.specs.AnyKind.{any_device}
-use Rattle.device_set.specs.Starts.{unserved, starts_of, too_long}
+use Rattle.device_set.specs.Starts.{starts_of, too_long}
 use Rattle.cosim_cmd.specs.Inputs.{AreImages, AsksNothing, AsksBeginning, AreRead, IsOneUnread}
-use Rattle.cosim_cmd.specs.Lines.{not_built_line, image_line}
+use Rattle.cosim_cmd.specs.Lines.{image_line}
 use Rattle.cosim_cmd.specs.NoTopology.{IsNoTopology}
 use Rattle.cosim_cmd.specs.declared.refusal.ModelBad.{ModelBad}
 use Rattle.cosim_cmd.specs.declared.refusal.ModelBad.TheVariants as bad
@@ -41,27 +41,18 @@ pub record IsTooLong (t : Topology) (images : List (List ℕ)) (line : List ℕ)
   pub too_long_is : too_long t images ≡ Some number
   pub named : IsHostLine t number line
 
--- a topology text whose components can all be served, and of its topology a fact holds
-pub record OfServed (bytes : List ℕ) (P : Topology → Type 0) : Type 0 where
+-- a topology text, and of its topology a fact holds
+pub record OfTopology (bytes : List ℕ) (P : Topology → Type 0) : Type 0 where
   pub topology : Topology
   pub spelled : IsTopologyText bytes topology
-  pub served : unserved topology ≡ None
   pub fact : P topology
 
 -- the text is the joined log of a topology text with these programs
 abbrev pub IsModelled : List ℕ → List (List ℕ) → List ℕ → Type 0
-IsModelled bytes images text = OfServed bytes (λ t. IsLogged t images text)
+IsModelled bytes images text = OfTopology bytes (λ t. IsLogged t images text)
 
 abbrev pub LacksRoom : List ℕ → List (List ℕ) → List ℕ → Type 0
-LacksRoom bytes images line = OfServed bytes (λ t. IsTooLong t images line)
-
--- a topology text with a component that can't be served yet, and the line that names the first one
-pub record IsNotBuilt (bytes line : List ℕ) : Type 0 where
-  pub topology : Topology
-  pub spelled : IsTopologyText bytes topology
-  pub component : ℕ
-  pub unserved_is : unserved topology ≡ Some component
-  pub named : line ≡ not_built_line component
+LacksRoom bytes images line = OfTopology bytes (λ t. IsTooLong t images line)
 
 -- ---- with the programs of hosts, which are read after the topology
 
@@ -83,7 +74,6 @@ pub record IsImageUnread (bytes : List ℕ) (before after : FilesSeen) (line : L
 abbrev pub IsModelBad : List ℕ → FilesSeen → FilesSeen → ModelBad → Type 0
 IsModelBad bytes before after bad.NoMemory = ⊤
 IsModelBad bytes before after (bad.Topology line) = IsNoTopology bytes line × AsksNothing before after
-IsModelBad bytes before after (bad.NotBuilt line) = IsNotBuilt bytes line × AsksNothing before after
 IsModelBad bytes before after (bad.File line) = IsImageUnread bytes before after line
 IsModelBad bytes before after (bad.Image line) = OfImages bytes before after (λ images. LacksRoom bytes images line)
 

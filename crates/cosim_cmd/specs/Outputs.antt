@@ -7,7 +7,7 @@ use Rattle.cosim_cmd.specs.Inputs.{Inputs}
 use Rattle.cosim_cmd.specs.NoTopology.{IsNoTopology}
 use Rattle.device_set.specs.Starts.{too_long}
 use Rattle.cosim_cmd.specs.Check.{IsChecked}
-use Rattle.cosim_cmd.specs.Model.{OfServed, IsModelled, LacksRoom, IsNotBuilt}
+use Rattle.cosim_cmd.specs.Model.{OfTopology, IsModelled, LacksRoom}
 use Rattle.cosim_cmd.specs.Asm.{IsAssembled, IsNoProgram}
 
 -- the output
@@ -26,11 +26,6 @@ LacksTopology (Check file) bytes line = IsNoTopology bytes line
 LacksTopology (Model file) bytes line = IsNoTopology bytes line
 LacksTopology (Asm file) bytes line = Never line
 
--- a component can't be served yet, where the command runs it
-abbrev pub LacksDevice : Sentence → List ℕ → List ℕ → Type 0
-LacksDevice (Model file) bytes line = IsNotBuilt bytes line
-LacksDevice _ bytes line = Never line
-
 -- the bytes are no program, where the command reads one
 abbrev pub LacksProgram : Sentence → List ℕ → List ℕ → Type 0
 LacksProgram (Asm file) bytes line = IsNoProgram bytes line
@@ -41,9 +36,9 @@ abbrev pub LacksHostRoom : Sentence → Inputs → List ℕ → Type 0
 LacksHostRoom (Model file) inputs line = LacksRoom inputs.text inputs.more line
 LacksHostRoom _ inputs line = Never line
 
--- what the command can take: a topology text, a topology text each component of which can be served and whose
--- programs fit their hosts, or a source that is assembled
+-- what the command can take: a topology text, a topology text whose programs fit their hosts, or a source that is
+-- assembled
 abbrev pub Accepts : Sentence → Inputs → Type 0
 Accepts (Check file) inputs = (t : Topology) × IsTopologyText inputs.text t
-Accepts (Model file) inputs = OfServed inputs.text (λ t. too_long t inputs.more ≡ None)
+Accepts (Model file) inputs = OfTopology inputs.text (λ t. too_long t inputs.more ≡ None)
 Accepts (Asm file) inputs = (program : List ℕ) × IsAssembled inputs.text program

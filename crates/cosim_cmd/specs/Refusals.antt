@@ -17,7 +17,6 @@ output_status (bad.File line) = 3
 output_status (bad.Topology line) = 4
 output_status (bad.Image line) = 5
 output_status (bad.Asm line) = 11
-output_status (bad.NotBuilt line) = 20
 
 abbrev pub status_of : Refusal → ℕ
 status_of refused.NoMemory = 1
@@ -32,7 +31,6 @@ output_line (bad.File line) = line
 output_line (bad.Topology line) = line
 output_line (bad.Image line) = line
 output_line (bad.Asm line) = line
-output_line (bad.NotBuilt line) = line
 
 abbrev pub line_of : Refusal → List ℕ
 line_of refused.NoMemory = memory_line
@@ -62,6 +60,5 @@ unread_image fault.NoMemory = model.NoMemory
 abbrev pub of_model : ModelBad → OutputBad
 of_model model.NoMemory = bad.NoMemory
 of_model (model.Topology line) = bad.Topology line
-of_model (model.NotBuilt line) = bad.NotBuilt line
 of_model (model.File line) = bad.File line
 of_model (model.Image line) = bad.Image line

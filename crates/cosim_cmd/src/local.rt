@@ -25,7 +25,6 @@ fn of_model(bad: ModelBad) -> OutputBad
     match bad {
         ModelBad::NoMemory => OutputBad::NoMemory,
         ModelBad::Topology(line) => OutputBad::Topology(line),
-        ModelBad::NotBuilt(line) => OutputBad::NotBuilt(line),
         ModelBad::File(line) => OutputBad::File(line),
         ModelBad::Image(line) => OutputBad::Image(line),
     }
@@ -127,7 +126,6 @@ fn run<F: Files, K: Sink>(
 /// - 5: the program of a host is longer than its RAM, `cosim: image <component>`.
 /// - 9: the output can't be written, `cosim: out`.
 /// - 11: `asm` has a source with a fault, `cosim: asm <line> <reason>`.
-/// - 20: `model` has to run a component that can't be served yet, `cosim: not built component <number>`.
 ///
 /// `check` writes the topology with every key of every entry, as a topology file; it needs nothing but the file.
 /// `model` writes the joined log of the run, `asm` the bytes of an assembler's source.

@@ -1,17 +1,16 @@
 //! The command `model`: the joined log of the global simulator.
-ghost use Rattle.std.specs.Prelude.{◌≡◌, ◌<◌, All, map, length, IfOk, IfErr, None, Some};
+ghost use Rattle.std.specs.Prelude.{◌≡◌, ◌<◌, All, map, length, IfOk, IfErr};
 ghost use Rattle.device_set.specs.AnyKind.{any_device, IsSettledDevice};
-ghost use Rattle.device_set.specs.Starts.{unserved};
 ghost use Rattle.cosim_cmd.specs.Model.{joined_log, IsLogged, IsTooLong, IsHostLine, OfImages, IsModelled, IsModelBad, AsksForImages};
 ghost use Rattle.cosim_cmd.specs.Refusals.{IsFault, of_image, unread_image};
 
 use crate::input::contents;
-use crate::line::{image_line, not_built_line};
+use crate::line::image_line;
 use crate::names::names_of;
 use crate::refusal::{Fault, ModelBad};
 use crate::topology_text::topology;
 use cs_base::{Files, NoMemory, Octets};
-use device_set::{AnyDevice, StartBad, image_names, start, unserved};
+use device_set::{AnyDevice, StartBad, image_names, start};
 use global_model::simulate;
 use log_join::join;
 use std::alloc::Global;
@@ -28,8 +27,8 @@ fn joined_log(
     ensures { IfOk result (λ text. text ≡ joined_log topology.now devices.items) }
 {
     let names = names_of(alloc, topology.components.as_slice())?;
-    let logs = simulate(alloc, devices, &topology.wiring)?;
-    let text = join(alloc, &logs, names.as_slice())?;
+    let outcome = simulate(alloc, devices, &topology.wiring)?;
+    let text = join(alloc, &outcome.logs, names.as_slice())?;
     Ok(text)
 }
 
@@ -44,7 +43,6 @@ fn host_line(alloc: Global, topology: &Topology, number: u32) -> Result<Octets, 
 
 /// The joined log of a topology with these programs.
 fn logged(alloc: Global, topology: &Topology, images: Vec<Octets>) -> Result<Octets, Fault>
-    requires { unserved topology.now ≡ None }
     ensures logged { IfOk result (IsLogged topology.now images.items) }
     ensures refused { IfErr result (IsFault (IsTooLong topology.now images.items)) }
 {
@@ -75,8 +73,7 @@ fn unread(fault: Fault) -> ModelBad
     }
 }
 
-/// The output of `model` on a topology text. The programs of hosts are read once it is known that each component
-/// can be served.
+/// The output of `model` on a topology text. The programs of hosts are read after the topology.
 pub fn modelled<F: Files>(alloc: Global, bytes: &[u8], files: &mut F) -> Result<Octets, ModelBad>
     ensures modelled { IfOk result (λ text. OfImages bytes.now (F.seen files.old) (F.seen files.new)
         (λ images. IsModelled bytes.now images text)) }
@@ -89,9 +86,6 @@ pub fn modelled<F: Files>(alloc: Global, bytes: &[u8], files: &mut F) -> Result<
         Err(Fault::Line(line)) => return Err(ModelBad::Topology(line)),
         Err(Fault::NoMemory) => return Err(ModelBad::NoMemory),
     };
-    if let Some(component) = unserved(&topology) {
-        return Err(ModelBad::NotBuilt(not_built_line(alloc, component)?));
-    }
     let names = image_names(alloc, &topology)?;
     match contents(alloc, names.as_slice(), files) {
         Ok(images) => match logged(alloc, &topology, images) {

@@ -26,8 +26,6 @@ impl From<NoMemory> for Fault {
 pub enum ModelBad {
     /// The text is no topology.
     Topology(Octets),
-    /// The topology has a component that can't be served yet.
-    NotBuilt(Octets),
     /// The program of a host can't be read.
     File(Octets),
     /// The program of a host is longer than its RAM.
@@ -60,8 +58,6 @@ pub enum OutputBad {
     Image(Octets),
     /// The source can't be assembled.
     Asm(Octets),
-    /// The topology has a component that can't be served yet.
-    NotBuilt(Octets),
 }
 
 impl From<NoMemory> for OutputBad {

@@ -26,7 +26,6 @@ impl OutputBad {
             OutputBad::Topology(_) => 4,
             OutputBad::Image(_) => 5,
             OutputBad::Asm(_) => 11,
-            OutputBad::NotBuilt(_) => 20,
         }
     }
 
@@ -39,8 +38,7 @@ impl OutputBad {
             OutputBad::File(line)
             | OutputBad::Topology(line)
             | OutputBad::Image(line)
-            | OutputBad::Asm(line)
-            | OutputBad::NotBuilt(line) => line.as_slice(),
+            | OutputBad::Asm(line) => line.as_slice(),
         }
     }
 }

@@ -21,28 +21,43 @@ fn written(alloc: Global, most: usize, failing: &[u64]) -> Result<Answer, Fail>
     )
 }
 
-#[test]
-fn an_output_may_take_one_byte_at_a_time(rt: HostRuntime) -> Result<(), Fail> {
-    let slow = written(rt.alloc(), 1, &[])?;
-    assert_eq!(rt; slow.status, 0);
-    assert_eq!(rt; slow.out.as_slice(), FOUR_LINES.as_bytes());
-    Ok(())
+/// An output, and what it has in the end.
+#[derive(Clone, Copy)]
+struct Row {
+    most: usize,
+    failing: &'static [u64],
+    status: u8,
+    out: &'static str,
 }
 
-#[test]
-fn an_output_that_fails_at_once_has_nothing(rt: HostRuntime) -> Result<(), Fail> {
-    let first = written(rt.alloc(), 10, &[0])?;
-    assert_eq!(rt; first.status, 9);
-    assert!(rt; first.out.is_empty());
-    assert_eq!(rt; first.err.as_slice(), b"cosim: out\n".as_slice());
-    Ok(())
-}
+const ROWS: [Row; 3] = [
+    Row {
+        most: 0,
+        failing: &[],
+        status: 0,
+        out: FOUR_LINES,
+    },
+    Row {
+        most: 9,
+        failing: &[0],
+        status: 9,
+        out: "",
+    },
+    Row {
+        most: 9,
+        failing: &[1],
+        status: 9,
+        out: "1000 a tx ",
+    },
+];
 
 #[test]
-fn an_output_that_fails_later_has_the_beginning(rt: HostRuntime) -> Result<(), Fail> {
-    let second = written(rt.alloc(), 10, &[1])?;
-    assert_eq!(rt; second.status, 9);
-    assert_eq!(rt; second.out.as_slice(), b"1000 a tx ".as_slice());
+fn an_output_has_the_beginning(rt: HostRuntime) -> Result<(), Fail> {
+    for row in &ROWS {
+        let answer = written(rt.alloc(), row.most.saturating_add(1), row.failing)?;
+        assert_eq!(rt; answer.status, row.status);
+        assert_eq!(rt; answer.out.as_slice(), row.out.as_bytes());
+    }
     Ok(())
 }
 

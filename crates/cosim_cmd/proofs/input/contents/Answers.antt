@@ -1,4 +1,4 @@
-use Rattle.std.proofs.Common.{rules, ◌≡◌, ◌+◌, ◌<◌, List, ℕ, ◌∷◌, ◌++◌, [], take, drop, length, sym, ◌∙◌, subst, ap, arith}
+use Rattle.std.proofs.Common.{◌≡◌, ◌+◌, ◌<◌, ◌∷◌, ◌++◌, [], take, drop, length, sym, ◌∙◌, subst, arith}
 use Rattle.cosim_cmd.specs.Refusals.{IsFault}
 use Rattle.cosim_cmd.specs.Inputs.{AsksFor, AsksAtMost, IsReadAs, IsUnreadAs, AreTold}
 use Rattle.cosim_cmd.proofs.Reading.{next_taken, whole_at, unread_next, asks_one_more, AsksFor-more, AreTold-push, IsTold-along}

@@ -1,5 +1,4 @@
 use Rattle.std.proofs.Common.{sym, ap, ◌∙◌, inr}
-use Rattle.cosim_cmd.specs.declared.refusal.Refusal.{Refusal}
 use Rattle.std.specs.Prelude.{Err}
 use Rattle.cosim_cmd.proofs.Accepting.{answered, is_out}
 use Rattle.cosim_cmd.proofs.local.cosim_local.Goals as goal

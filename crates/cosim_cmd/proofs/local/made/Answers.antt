@@ -1,13 +1,10 @@
-use Rattle.std.proofs.Common.{rules, ◌≡◌, ℕ, List, ap, sym, subst}
+use Rattle.std.proofs.Common.{◌≡◌, ap, sym, subst}
 use Rattle.cosim_cmd.specs.declared.words.Sentence.{Sentence as Read}
 use Rattle.cosim_cmd.specs.declared.words.Sentence.TheVariants as read
 use Rattle.cosim_cmd.specs.declared.refusal.OutputBad.{OutputBad}
 use Rattle.cosim_cmd.specs.Said.{said}
 use Rattle.cosim_cmd.specs.Sentence.{Check, Asm}
-use Rattle.cosim_cmd.specs.Check.{IsChecked}
-use Rattle.cosim_cmd.specs.Asm.{IsAssembled}
-use Rattle.cosim_cmd.specs.Outputs.{IsOutput}
-use Rattle.cosim_cmd.specs.Local.{Lacks, OfRest}
+use Rattle.cosim_cmd.specs.Local.{Lacks}
 use Rattle.cosim_cmd.proofs.Reading.{check_made, asm_made, model_lacks}
 use Rattle.cosim_cmd.proofs.local.made.Goals as goal
 

@@ -1,4 +1,4 @@
-use Rattle.std.proofs.Common.{◌≡◌, subst, sym}
+use Rattle.std.proofs.Common.{subst, sym}
 use Rattle.std.proofs.lemmas.Result.{IfOk-weaker, IfErr-weaker}
 use Rattle.cosim_cmd.specs.declared.refusal.OutputBad.{OutputBad}
 use Rattle.cosim_cmd.specs.Refusals.{IsFault}

@@ -1,6 +1,5 @@
 use Rattle.std.proofs.Common.{ℕ, ◌≡◌, List, length, ap, sym, subst, ◌∙◌}
 use Rattle.std.proofs.lemmas.List.{length-map}
-use Rattle.std.specs.Prelude.{map}
 use Rattle.device_set.specs.AnyKind.{any_device}
 use Rattle.device_api.specs.World.{global_until, logs_of}
 use Rattle.device_api.specs.Joined.{joined_until}
@@ -18,7 +17,7 @@ join-requires c =
     let names : length c.as_slice-2.result.now ≡ length t.components =
     ap length c.as_slice-2.ensures.value ∙ ap length c.in_ok-names.ensures ∙ ap (λ (components : List Component). length (names_of components)) c.as_slice.ensures ∙ length-map t.components (λ (component : Component). component.name) in
     let net = network_of t c.args.devices.items in
-    let lists : c.in_ok-logs.logs.lists ≡ logs_of (global_until net t.wiring.end) = c.in_ok-logs.ensures in
+    let lists : c.in_ok-outcome.outcome.logs.lists ≡ logs_of (global_until net t.wiring.end) = c.in_ok-outcome.ensures.logs in
     let devices : length c.args.devices.items ≡ length t.components =
     sym (length-map c.args.devices.items any_device.ports) ∙ ap length (c.requires.matches ∙ t.valid.kinds_of_ports) ∙ length-map t.components (λ (component : Component). ports_of component.config) in
     names ∙ sym devices ∙ sym (length-logs_of net t.wiring.end) ∙ sym (ap length lists)
@@ -28,7 +27,7 @@ returns c =
     let t = c.args.topology.now in
     let end = t.wiring.end in
     let net = network_of t c.args.devices.items in
-    let lists : c.in_ok-logs.logs.lists ≡ logs_of (global_until net end) = c.in_ok-logs.ensures in
+    let lists : c.in_ok-outcome.outcome.logs.lists ≡ logs_of (global_until net end) = c.in_ok-outcome.ensures.logs in
     let names : c.as_slice-2.result.now ≡ names_of t.components = c.as_slice-2.ensures.value ∙ c.in_ok-names.ensures ∙ ap names_of c.as_slice.ensures in
-    let before : AreBefore end c.in_ok-logs.logs.lists = subst (λ (logs : List (List Line)). AreBefore end logs) (sym lists) (logs_of-before net end) in
-    c.in_ok-text.ensures end before ∙ ap (λ (names : List (List ℕ)). joined_until end names c.in_ok-logs.logs.lists) names ∙ ap (joined_until end (names_of t.components)) lists
+    let before : AreBefore end c.in_ok-outcome.outcome.logs.lists = subst (λ (logs : List (List Line)). AreBefore end logs) (sym lists) (logs_of-before net end) in
+    c.in_ok-text.ensures end before ∙ ap (λ (names : List (List ℕ)). joined_until end names c.in_ok-outcome.outcome.logs.lists) names ∙ ap (joined_until end (names_of t.components)) lists

@@ -1,4 +1,4 @@
-use Rattle.std.proofs.Common.{◌≡◌, ◌<◌, Some, Err, length, ap, ◌∙◌, arith}
+use Rattle.std.proofs.Common.{◌≡◌, Some, Err, ap, ◌∙◌, arith}
 use Rattle.device_set.specs.Starts.{too_long}
 use Rattle.device_set.specs.declared.start_bad.StartBad.TheVariants.{ImageTooLong}
 use Rattle.cosim_cmd.specs.Model.{joined_log}
