@@ -182,3 +182,8 @@ fi
 queues=$(dirname "$cosim")/crates/queue_bench
 [ -x "$queues/out/queue_bench" ] || (cd "$queues" && rt run > "$folder/queues.log" 2>&1)
 "$queues/out/queue_bench" 10000000
+
+# 10^7 ticks of a device alone: one event at a time, events in a row, and by the global run.
+runners=$(dirname "$cosim")/crates/runner_bench
+[ -x "$runners/out/runner_bench" ] || (cd "$runners" && rt run > "$folder/runners.log" 2>&1)
+"$runners/out/runner_bench" 10000000
