@@ -30,20 +30,20 @@ no_topology bytes line t text (inr none) =
 
 has_topology : (s : Sentence) (inputs : Inputs) (line : List ℕ) → Accepts s inputs → LacksTopology s inputs.text line → ⊥
 has_topology (Check file) inputs line accepted lacks = no_topology inputs.text line accepted.0 accepted.1 lacks
-has_topology (Model file) inputs line accepted lacks = no_topology inputs.text line accepted.topology accepted.spelled lacks
+has_topology (Model file stats) inputs line accepted lacks = no_topology inputs.text line accepted.topology accepted.spelled lacks
 has_topology (Asm file) inputs line accepted lacks = lacks
 
 -- the programs fit
 has_room : (s : Sentence) (inputs : Inputs) (line : List ℕ) → Accepts s inputs → LacksHostRoom s inputs line → ⊥
 has_room (Check file) inputs line accepted lacks = lacks
-has_room (Model file) inputs line accepted lacks =
+has_room (Model file stats) inputs line accepted lacks =
     let same : accepted.topology ≡ lacks.topology = one_topology inputs.text accepted.topology lacks.topology accepted.spelled lacks.spelled in
     let clash : None ≡ Some lacks.fact.number = sym accepted.fact ∙ ap (λ (t : Topology). too_long t inputs.more) same ∙ lacks.fact.too_long_is in cc
 has_room (Asm file) inputs line accepted lacks = lacks
 
 has_program : (s : Sentence) (inputs : Inputs) (line : List ℕ) → Accepts s inputs → LacksProgram s inputs.text line → ⊥
 has_program (Check file) inputs line accepted lacks = lacks
-has_program (Model file) inputs line accepted lacks = lacks
+has_program (Model file stats) inputs line accepted lacks = lacks
 has_program (Asm file) inputs line accepted lacks = let clash : Ok accepted.0 ≡ Err (lacks.number, lacks.reason) = sym accepted.1 ∙ lacks.refused in cc
 
 -- the bytes that were read are those that are told
@@ -63,7 +63,7 @@ same_contents held (name ∷ names) (x ∷ xs) (y ∷ ys) is told =
 -- the names of a text's other files are one list
 same_names : (s : Sentence) (bytes : List ℕ) (names others : List Text) → AreFurther s bytes names → AreFurther s bytes others → names ≡ others
 same_names (Check file) bytes names others is also = is ∙ sym also
-same_names (Model file) bytes names others is also =
+same_names (Model file stats) bytes names others is also =
     is.are_images ∙ ap (λ (t : Topology). image_names t.components) (one_topology bytes is.topology also.topology is.spelled also.spelled) ∙ sym also.are_images
 same_names (Asm file) bytes names others is also = is ∙ sym also
 

@@ -1,6 +1,8 @@
 pub mod Cuts
 pub mod WordKinds
 pub mod ClapWords
+pub mod ChannelNumbers
+pub mod StatsWords
 pub mod LogTimes
 pub mod Reading
 pub mod TooLong

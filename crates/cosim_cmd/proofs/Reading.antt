@@ -1,5 +1,5 @@
 -- Files that are read one after another.
-use Rattle.std.proofs.Common.{◌≡◌, ℕ, suc, ◌+◌, ◌<◌, List, [], ◌∷◌, ◌++◌, take, drop, length, get_or, Option, Some, None, refl, ap, sym, ◌∙◌, subst, inl, inr, append-nil, append_assoc, arith}
+use Rattle.std.proofs.Common.{◌≡◌, ℕ, suc, ◌+◌, ◌<◌, Bool, List, [], ◌∷◌, ◌++◌, take, drop, length, get_or, Option, Some, None, refl, ap, sym, ◌∙◌, subst, inl, inr, append-nil, append_assoc, arith}
 use Rattle.std.proofs.Math.Seq.{take-suc}
 use Rattle.std.proofs.lemmas.List.{take-append-drop}
 use Rattle.std.specs.Prelude.{option_map}
@@ -164,25 +164,25 @@ pub asm_made : (r : Read) (bytes : List ℕ) (seen : FilesSeen) (text : List ℕ
 asm_made r bytes seen text file is fact =
     subst (λ s. OfRest (record { sentence = s; bytes = bytes }) seen seen (λ inputs. IsOutput s inputs text)) (sym is) (alone (Asm file) bytes seen (λ inputs. IsOutput (Asm file) inputs text) refl fact)
 
-module _ (file bytes : List ℕ) (before after : FilesSeen) where
-  pub model_made : (text : List ℕ) → OfImages bytes before after (λ images. IsModelled bytes images text) → OfRest (record { sentence = Model file; bytes = bytes }) before after (λ inputs. IsOutput (Model file) inputs text)
+module _ (file : Text) (stats : Bool) (bytes : List ℕ) (before after : FilesSeen) where
+  pub model_made : (text : List ℕ) → OfImages bytes before after (λ images. IsModelled stats bytes images text) → OfRest (record { sentence = Model file stats; bytes = bytes }) before after (λ inputs. IsOutput (Model file stats) inputs text)
   model_made text of = record { names = of.names; are_further = of.are_images; more = of.images; read = of.read; fact = of.fact }
 
-  pub model_lacks : (bad : ModelBad) → IsModelBad bytes before after bad → Lacks (record { sentence = Model file; bytes = bytes }) before after (of_model bad)
+  pub model_lacks : (bad : ModelBad) → IsModelBad bytes before after bad → Lacks (record { sentence = Model file stats; bytes = bytes }) before after (of_model bad)
   model_lacks model.NoMemory why = tt
   model_lacks (model.Topology line) why = why
   model_lacks (model.File line) why = record { names = why.names; are_further = why.are_images; unread = why.unread }
   model_lacks (model.Image line) why = record { names = why.names; are_further = why.are_images; more = why.images; read = why.read; fact = why.fact }
 
-  pub model_asks : AsksForImages bytes before after → AsksFurther (record { sentence = Model file; bytes = bytes }) before after
+  pub model_asks : AsksForImages bytes before after → AsksFurther (record { sentence = Model file stats; bytes = bytes }) before after
   model_asks (inl none) = inl none
   model_asks (inr some) = inr (record { names = some.names; are_further = some.are_images; asked = some.asked })
 
 -- ---- the programs of hosts
 
 module _ (bytes : List ℕ) (t : Topology) (spelled : IsTopologyText bytes t) (names : List Text) (are : names ≡ image_names t.components) (before after : FilesSeen) where
-  pub images_modelled : (images : List (List ℕ)) → AreRead names before after images → (text : List ℕ) → IsLogged t images text → OfImages bytes before after (λ images. IsModelled bytes images text)
-  images_modelled images read text logged = record {
+  pub images_modelled : (stats : Bool) (images : List (List ℕ)) → AreRead names before after images → (text : List ℕ) → IsLogged stats t images text → OfImages bytes before after (λ images. IsModelled stats bytes images text)
+  images_modelled stats images read text logged = record {
     names = names;
     are_images = record { topology = t; spelled = spelled; are_images = are };
     images = images;

@@ -22,7 +22,7 @@ pub record AreImages (bytes : List ℕ) (names : List Text) : Type 0 where
 -- the names of the files that a command reads after its own, which holds these bytes
 abbrev pub AreFurther : Sentence → List ℕ → List Text → Type 0
 AreFurther (Check file) bytes names = names ≡ []
-AreFurther (Model file) bytes names = AreImages bytes names
+AreFurther (Model file stats) bytes names = AreImages bytes names
 AreFurther (Asm file) bytes names = names ≡ []
 
 -- the words are a sentence, and of it a fact holds

@@ -1,7 +1,9 @@
--- What `model` writes: the joined log of the global run of the topology that the file spells.
-use Rattle.std.specs.Prelude.{ℕ, ◌≡◌, ◌⊎◌, List, slice_get, None, Some, ⊤}
+-- What `model` writes: the joined log of the global run of the topology that the file spells, and its statistics.
+use Rattle.std.specs.Prelude.{ℕ, ◌≡◌, ◌⊎◌, ◌++◌, if◌then◌else◌, Bool, List, slice_get, None, Some, ⊤}
 use Rattle.cs_base.specs.Outside.{FilesSeen}
 use Rattle.device_api.specs.World.{Network, global_until, logs_of}
+use Rattle.device_api.specs.GlobalCounts.{counts_of}
+use Rattle.channel_stats.specs.Statistics.{statistics}
 use Rattle.device_api.specs.Joined.{joined_until}
 use Rattle.topology_file.specs.declared.component.Component.{Component}
 use Rattle.topology_file.specs.declared.topology.Topology.{Topology}
@@ -24,10 +26,18 @@ network_of t devices = record { behaviour = any_device; starts = devices; links 
 abbrev pub joined_log : Topology → List AnyDevice → List ℕ
 joined_log t devices = joined_until t.wiring.end (names_of t.components) (logs_of (global_until (network_of t devices) t.wiring.end))
 
--- the programs fit their hosts, and the text is the joined log of the topology's devices from their start
-pub record IsLogged (t : Topology) (images : List (List ℕ)) (text : List ℕ) : Type 0 where
+-- the statistics of that run
+abbrev pub run_statistics : Topology → List AnyDevice → List ℕ
+run_statistics t devices = statistics (names_of t.components) t.wiring.links (counts_of (network_of t devices) t.wiring.end)
+
+-- the joined log, and where they are asked for, the statistics after it
+abbrev pub run_text : Bool → Topology → List AnyDevice → List ℕ
+run_text stats t devices = if stats then joined_log t devices ++ run_statistics t devices else joined_log t devices
+
+-- the programs fit their hosts, and the text is that of the run of the topology's devices from their start
+pub record IsLogged (stats : Bool) (t : Topology) (images : List (List ℕ)) (text : List ℕ) : Type 0 where
   pub fit : too_long t images ≡ None
-  pub joined : text ≡ joined_log t (starts_of t.components images)
+  pub joined : text ≡ run_text stats t (starts_of t.components images)
 
 -- the line is about the host with this number
 pub record IsHostLine (t : Topology) (number : ℕ) (line : List ℕ) : Type 0 where
@@ -47,9 +57,9 @@ pub record OfTopology (bytes : List ℕ) (P : Topology → Type 0) : Type 0 wher
   pub spelled : IsTopologyText bytes topology
   pub fact : P topology
 
--- the text is the joined log of a topology text with these programs
-abbrev pub IsModelled : List ℕ → List (List ℕ) → List ℕ → Type 0
-IsModelled bytes images text = OfTopology bytes (λ t. IsLogged t images text)
+-- the text is that of the run of a topology text with these programs
+abbrev pub IsModelled : Bool → List ℕ → List (List ℕ) → List ℕ → Type 0
+IsModelled stats bytes images text = OfTopology bytes (λ t. IsLogged stats t images text)
 
 abbrev pub LacksRoom : List ℕ → List (List ℕ) → List ℕ → Type 0
 LacksRoom bytes images line = OfTopology bytes (λ t. IsTooLong t images line)

@@ -13,7 +13,7 @@ use Rattle.cosim_cmd.specs.Asm.{IsAssembled, IsNoProgram}
 -- the output
 abbrev pub IsOutput : Sentence → Inputs → List ℕ → Type 0
 IsOutput (Check file) inputs text = IsChecked inputs.text text
-IsOutput (Model file) inputs text = IsModelled inputs.text inputs.more text
+IsOutput (Model file stats) inputs text = IsModelled stats inputs.text inputs.more text
 IsOutput (Asm file) inputs text = IsAssembled inputs.text text
 
 -- nothing is refused for this
@@ -23,7 +23,7 @@ Never line = ⊥
 -- the bytes are no topology, where the command reads one
 abbrev pub LacksTopology : Sentence → List ℕ → List ℕ → Type 0
 LacksTopology (Check file) bytes line = IsNoTopology bytes line
-LacksTopology (Model file) bytes line = IsNoTopology bytes line
+LacksTopology (Model file stats) bytes line = IsNoTopology bytes line
 LacksTopology (Asm file) bytes line = Never line
 
 -- the bytes are no program, where the command reads one
@@ -33,12 +33,12 @@ LacksProgram _ bytes line = Never line
 
 -- a program is too long for its host, where the command runs it
 abbrev pub LacksHostRoom : Sentence → Inputs → List ℕ → Type 0
-LacksHostRoom (Model file) inputs line = LacksRoom inputs.text inputs.more line
+LacksHostRoom (Model file stats) inputs line = LacksRoom inputs.text inputs.more line
 LacksHostRoom _ inputs line = Never line
 
 -- what the command can take: a topology text, a topology text whose programs fit their hosts, or a source that is
 -- assembled
 abbrev pub Accepts : Sentence → Inputs → Type 0
 Accepts (Check file) inputs = (t : Topology) × IsTopologyText inputs.text t
-Accepts (Model file) inputs = OfTopology inputs.text (λ t. too_long t inputs.more ≡ None)
+Accepts (Model file stats) inputs = OfTopology inputs.text (λ t. too_long t inputs.more ≡ None)
 Accepts (Asm file) inputs = (program : List ℕ) × IsAssembled inputs.text program

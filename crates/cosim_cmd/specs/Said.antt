@@ -1,6 +1,7 @@
 -- The sentence that was read, and how a command is described to `clap`.
-use Rattle.std.specs.Prelude.{true, codes}
+use Rattle.std.specs.Prelude.{true, codes, Some}
 use Rattle.clap.specs.Walk.{Rule}
+use Rattle.clap.specs.declared.builder.action.ArgAction.TheVariants.{SetTrue}
 use Rattle.clap.specs.Simple.{App, Shape, new_rule, new_app, with_rule, on_top}
 use Rattle.cosim_cmd.specs.Sentence.{Text, Sentence, Check, Model, Asm}
 use Rattle.cosim_cmd.specs.declared.words.Sentence.{Sentence as Read}
@@ -8,7 +9,7 @@ use Rattle.cosim_cmd.specs.declared.words.Sentence.TheVariants as read
 
 abbrev pub said : Read → Sentence
 said (read.Check file) = Check file.now
-said (read.Model file) = Model file.now
+said (read.Model file stats) = Model file.now stats
 said (read.Asm file) = Asm file.now
 
 -- one required file, and no options; the words are those after the command's name
@@ -17,3 +18,11 @@ file_rule = record (new_rule (codes "file")) { required = true }
 
 abbrev pub described : Text → App
 described name = with_rule (on_top (λ (s : Shape). record s { no_binary_name = true; disable_help_flag = true }) (new_app name)) file_rule
+
+-- the option --stats, which has no value
+abbrev pub stats_rule : Rule
+stats_rule = record (new_rule (codes "stats")) { long = Some (codes "stats"); action = Some SetTrue }
+
+-- one required file, and the option
+abbrev pub described_with_stats : Text → App
+described_with_stats name = with_rule (described name) stats_rule

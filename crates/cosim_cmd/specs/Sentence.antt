@@ -1,5 +1,5 @@
 -- Which lists of words are sentences, and what they say.
-use Rattle.std.specs.Prelude.{ℕ, Bool, false, ◌==◌, String, List, [], ◌∷◌, map, codes, Option, Some, None, option_map, option_and_then, if◌then◌else◌}
+use Rattle.std.specs.Prelude.{ℕ, Bool, true, false, ◌==◌, String, List, [], ◌∷◌, map, codes, Option, Some, None, option_map, option_and_then, if◌then◌else◌}
 use Rattle.std.specs.Str.{bytes_eq}
 use Rattle.std.specs.String.{string_bytes}
 use Rattle.std.specs.declared.alloc.Global.{Global}
@@ -36,15 +36,47 @@ single (word ∷ (other ∷ more)) = None
 abbrev pub file_word : List Text → Option Text
 file_word words = option_and_then single (positionals words)
 
+-- ---- with an option that has no value
+
+-- the positional words, and those of options, each in their order
+abbrev pub operands : List Text → List Text
+operands [] = []
+operands (word ∷ more) =
+    if bytes_eq word (codes "--") then more
+    else if is_option word then operands more
+    else word ∷ operands more
+
+abbrev pub options : List Text → List Text
+options [] = []
+options (word ∷ more) =
+    if bytes_eq word (codes "--") then []
+    else if is_option word then word ∷ options more
+    else options more
+
+-- whether the option is among these, which are none or that one
+abbrev pub is_given : Text → List Text → Option Bool
+is_given option [] = Some false
+is_given option (word ∷ []) = if bytes_eq word option then Some true else None
+is_given option (word ∷ (other ∷ more)) = None
+
+abbrev pub both : {A B : Type 0} → Option A → Option B → Option (A × B)
+both None b = None
+both (Some a) None = None
+both (Some a) (Some b) = Some (a, b)
+
+-- the one positional word, and whether `--stats` is given
+abbrev pub file_and_stats : List Text → Option (Text × Bool)
+file_and_stats words = both (single (operands words)) (is_given (codes "--stats") (options words))
+
 -- what the words say: a command and its file
 pub data Sentence : Type 0 where
   Check : Text → Sentence
-  Model : Text → Sentence
+  Model : (file : Text) (stats : Bool) → Sentence
   Asm : Text → Sentence
 
 abbrev pub file_of : Sentence → Text
 file_of (Check file) = file
-file_of (Model file) = file
+file_of (Model file stats) = file
 file_of (Asm file) = file
 
 -- the first word is the command's name, and the words after it are the command's own
@@ -52,6 +84,6 @@ abbrev pub sentence_of : List Text → Option Sentence
 sentence_of [] = None
 sentence_of (command ∷ words) =
     if bytes_eq command (codes "check") then option_map Check (file_word words)
-    else if bytes_eq command (codes "model") then option_map Model (file_word words)
+    else if bytes_eq command (codes "model") then option_map (λ p. Model p.0 p.1) (file_and_stats words)
     else if bytes_eq command (codes "asm") then option_map Asm (file_word words)
     else None

@@ -52,7 +52,7 @@ fn made<F: Files>(
             Err(Fault::Line(line)) => Err(OutputBad::Topology(line)),
             Err(Fault::NoMemory) => Err(OutputBad::NoMemory),
         },
-        Sentence::Model { .. } => match modelled(alloc, bytes, files) {
+        Sentence::Model { stats, .. } => match modelled(alloc, *stats, bytes, files) {
             Ok(text) => Ok(text),
             Err(bad) => Err(of_model(bad)),
         },
@@ -118,9 +118,9 @@ fn run<F: Files, K: Sink>(
 ///
 /// - 0: the output stands whole in `out`.
 /// - 1: memory is wanting, `cosim: no memory`.
-/// - 2: the words are no sentence, `cosim: usage`. The sentences are `check <file>`, `model <file>` and
-///   `asm <file>`. A word that begins with `-` and isn't `-` alone is an option, of which these commands have none;
-///   after a word `--` each word is positional.
+/// - 2: the words are no sentence, `cosim: usage`. The sentences are `check <file>`, `model <file> [--stats]`
+///   and `asm <file>`. A word that begins with `-` and isn't `-` alone is an option's, which stands anywhere, and
+///   once; after a word `--` each word is positional.
 /// - 3: the file can't be read, `cosim: file <name>`.
 /// - 4: the file is no topology, `cosim: topology toml` or `cosim: topology <reason> at <entry>`.
 /// - 5: the program of a host is longer than its RAM, `cosim: image <component>`.
@@ -128,7 +128,8 @@ fn run<F: Files, K: Sink>(
 /// - 11: `asm` has a source with a fault, `cosim: asm <line> <reason>`.
 ///
 /// `check` writes the topology with every key of every entry, as a topology file; it needs nothing but the file.
-/// `model` writes the joined log of the run, `asm` the bytes of an assembler's source.
+/// `model` writes the joined log of the run, and with `--stats` a line for each channel after it:
+/// `channel <k> <from> <to> syncs <n> sends <m>`. `asm` writes the bytes of an assembler's source.
 ///
 /// On each status but 0 and 9 nothing is written to `out`. A failing `err` leaves the status as it is.
 pub fn cosim_local<F: Files, K: Sink, E: Sink>(

@@ -1,7 +1,7 @@
-//! The command `model`: the joined log of the global simulator.
+//! The command `model`: the joined log of the global simulator, and the statistics of its run.
 ghost use Rattle.std.specs.Prelude.{◌≡◌, ◌<◌, All, map, length, IfOk, IfErr};
 ghost use Rattle.device_set.specs.AnyKind.{any_device, IsSettledDevice};
-ghost use Rattle.cosim_cmd.specs.Model.{joined_log, IsLogged, IsTooLong, IsHostLine, OfImages, IsModelled, IsModelBad, AsksForImages};
+ghost use Rattle.cosim_cmd.specs.Model.{run_text, IsLogged, IsTooLong, IsHostLine, OfImages, IsModelled, IsModelBad, AsksForImages};
 ghost use Rattle.cosim_cmd.specs.Refusals.{IsFault, of_image, unread_image};
 
 use crate::input::contents;
@@ -9,6 +9,7 @@ use crate::line::image_line;
 use crate::names::names_of;
 use crate::refusal::{Fault, ModelBad};
 use crate::topology_text::topology;
+use channel_stats::channel_lines;
 use cs_base::{Files, NoMemory, Octets};
 use device_set::{AnyDevice, StartBad, image_names, start};
 use global_model::simulate;
@@ -16,19 +17,26 @@ use log_join::join;
 use std::alloc::Global;
 use topology_file::Topology;
 
-/// The joined log of a topology's devices.
-fn joined_log(
+/// The joined log of a topology's devices, and where they are asked for, the statistics after it.
+fn run_text(
     alloc: Global,
+    stats: bool,
     topology: &Topology,
     devices: Vec<AnyDevice>,
 ) -> Result<Octets, NoMemory>
     requires matches { map any_device.ports devices.items ≡ topology.now.wiring.kinds }
     requires at_start { All (λ device. IsSettledDevice device 0) devices.items }
-    ensures { IfOk result (λ text. text ≡ joined_log topology.now devices.items) }
+    ensures { IfOk result (λ text. text ≡ run_text stats topology.now devices.items) }
 {
     let names = names_of(alloc, topology.components.as_slice())?;
     let outcome = simulate(alloc, devices, &topology.wiring)?;
-    let text = join(alloc, &outcome.logs, names.as_slice())?;
+    let mut text = join(alloc, &outcome.logs, names.as_slice())?;
+    if !stats {
+        return Ok(text);
+    }
+    let links = topology.wiring.links.as_slice();
+    let lines = channel_lines(alloc, names.as_slice(), links, outcome.counts.as_slice())?;
+    text.append(lines.as_slice())?;
     Ok(text)
 }
 
@@ -41,13 +49,18 @@ fn host_line(alloc: Global, topology: &Topology, number: u32) -> Result<Octets, 
     image_line(alloc, host.name.as_slice())
 }
 
-/// The joined log of a topology with these programs.
-fn logged(alloc: Global, topology: &Topology, images: Vec<Octets>) -> Result<Octets, Fault>
-    ensures logged { IfOk result (IsLogged topology.now images.items) }
+/// The text of the run of a topology with these programs.
+fn logged(
+    alloc: Global,
+    stats: bool,
+    topology: &Topology,
+    images: Vec<Octets>,
+) -> Result<Octets, Fault>
+    ensures logged { IfOk result (IsLogged stats topology.now images.items) }
     ensures refused { IfErr result (IsFault (IsTooLong topology.now images.items)) }
 {
     match start(alloc, topology, images) {
-        Ok(devices) => Ok(joined_log(alloc, topology, devices)?),
+        Ok(devices) => Ok(run_text(alloc, stats, topology, devices)?),
         Err(StartBad::ImageTooLong { component }) => {
             Err(Fault::Line(host_line(alloc, topology, component)?))
         }
@@ -74,9 +87,14 @@ fn unread(fault: Fault) -> ModelBad
 }
 
 /// The output of `model` on a topology text. The programs of hosts are read after the topology.
-pub fn modelled<F: Files>(alloc: Global, bytes: &[u8], files: &mut F) -> Result<Octets, ModelBad>
+pub fn modelled<F: Files>(
+    alloc: Global,
+    stats: bool,
+    bytes: &[u8],
+    files: &mut F,
+) -> Result<Octets, ModelBad>
     ensures modelled { IfOk result (λ text. OfImages bytes.now (F.seen files.old) (F.seen files.new)
-        (λ images. IsModelled bytes.now images text)) }
+        (λ images. IsModelled stats bytes.now images text)) }
     ensures refused { IfErr result (IsModelBad bytes.now (F.seen files.old) (F.seen files.new)) }
     ensures asked { AsksForImages bytes.now (F.seen files.old) (F.seen files.new) }
     ensures files_kept { (F.seen files.new).held ≡ (F.seen files.old).held }
@@ -88,7 +106,7 @@ pub fn modelled<F: Files>(alloc: Global, bytes: &[u8], files: &mut F) -> Result<
     };
     let names = image_names(alloc, &topology)?;
     match contents(alloc, names.as_slice(), files) {
-        Ok(images) => match logged(alloc, &topology, images) {
+        Ok(images) => match logged(alloc, stats, &topology, images) {
             Ok(text) => Ok(text),
             Err(fault) => Err(too_long(fault)),
         },

@@ -1,11 +1,11 @@
 //! The words of the command line.
 ghost use Rattle.std.specs.Prelude.{◌≡◌, IfOk, option_copied, option_map};
 ghost use Rattle.clap.specs.Words.{app_of};
-ghost use Rattle.cosim_cmd.specs.Sentence.{texts, file_of, file_word, sentence_of};
-ghost use Rattle.cosim_cmd.specs.Said.{said, described};
+ghost use Rattle.cosim_cmd.specs.Sentence.{texts, file_of, file_word, file_and_stats, sentence_of};
+ghost use Rattle.cosim_cmd.specs.Said.{said, described, described_with_stats};
 
 use clap::error::ErrorKind;
-use clap::{Arg, Command};
+use clap::{Arg, ArgAction, Command};
 use cs_base::NoMemory;
 use std::alloc::Global;
 
@@ -14,8 +14,8 @@ use std::alloc::Global;
 pub enum Sentence<'a> {
     /// `check <file>`
     Check { file: &'a str },
-    /// `model <file>`
-    Model { file: &'a str },
+    /// `model <file> [--stats]`
+    Model { file: &'a str, stats: bool },
     /// `asm <file>`
     Asm { file: &'a str },
 }
@@ -48,6 +48,38 @@ fn file_word<'a>(
     }
 }
 
+/// A command with one file and the option `--stats`. The words that it takes are those after its name.
+fn with_file_and_stats<'a>(alloc: Global, name: &'a str) -> Result<Command<'a>, NoMemory>
+    ensures { IfOk result (λ command. app_of command ≡ described_with_stats name.entry.now) }
+{
+    let stats = Arg::new(alloc, "stats")
+        .long("stats")
+        .action(ArgAction::SetTrue);
+    Ok(with_file(alloc, name)?.arg(stats)?)
+}
+
+/// The file of a command with one file, and whether it has the option `--stats`; None where the words say something
+/// else.
+fn file_and_stats<'a>(
+    alloc: Global,
+    name: &'a str,
+    words: &'a [String],
+) -> Result<Option<(&'a str, bool)>, NoMemory>
+    ensures { IfOk result (λ said. option_map (λ p. (p.0.now, p.1)) said ≡ file_and_stats (texts words.now)) }
+{
+    let command = with_file_and_stats(alloc, name)?;
+    match command.try_get_matches_from(words) {
+        Ok(matches) => {
+            let Some(file) = matches.get_str("file") else {
+                return Ok(None);
+            };
+            Ok(Some((file, matches.get_flag("stats"))))
+        }
+        Err(error) if error.kind() == ErrorKind::OutOfMemory => Err(NoMemory),
+        Err(_) => Ok(None),
+    }
+}
+
 impl<'a> Sentence<'a> {
     ghost use Rattle.std.specs.Prelude.{◌≡◌, IfOk, option_map};
     ghost use Rattle.cosim_cmd.specs.Sentence.{texts, file_of, sentence_of};
@@ -62,7 +94,10 @@ impl<'a> Sentence<'a> {
         };
         match command.as_str() {
             "check" => Ok(file_word(alloc, "check", words)?.map(|file| Sentence::Check { file })),
-            "model" => Ok(file_word(alloc, "model", words)?.map(|file| Sentence::Model { file })),
+            "model" => Ok(file_and_stats(alloc, "model", words)?.map(|(
+                file,
+                stats,
+            )| Sentence::Model { file, stats })),
             "asm" => Ok(file_word(alloc, "asm", words)?.map(|file| Sentence::Asm { file })),
             _ => Ok(None),
         }
@@ -73,7 +108,8 @@ impl<'a> Sentence<'a> {
         ensures { result.now ≡ file_of (said self.now) }
     {
         match *self {
-            Sentence::Check { file } | Sentence::Model { file } | Sentence::Asm { file } => file,
+            Sentence::Check { file } | Sentence::Model { file, .. } | Sentence::Asm { file } =>
+                file,
         }
     }
 }

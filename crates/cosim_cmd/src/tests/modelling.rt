@@ -1,5 +1,5 @@
 //! The joined log of beacons.
-use super::{Answer, FOUR_LINES, TWO_BEACONS, on_text};
+use super::{Answer, FILE, FOUR_LINES, TWO_BEACONS, on_text, plain};
 use std::alloc::Global;
 use std::test::Fail;
 
@@ -43,6 +43,23 @@ fn logs_are_joined_until_the_end(rt: HostRuntime) -> Result<(), Fail> {
     let both = on_text(rt.alloc(), "model", BOTH_SEND.as_bytes())?;
     let expected = b"1000 a tx 60\n1000 b tx 60\n1500 a rx 60\n1500 b rx 60\n";
     assert_eq!(rt; both.out.as_slice(), expected.as_slice());
+    Ok(())
+}
+
+const WITH_STATISTICS: &str = "1000 a tx 60
+1500 b rx 60
+2000 a tx 60
+2500 b rx 60
+channel 0 a b syncs 6 sends 2
+channel 1 b a syncs 6 sends 0
+";
+
+#[test]
+fn statistics_follow_the_log(rt: HostRuntime) -> Result<(), Fail> {
+    let topology = format!(in rt.alloc(); "end = 2600{TWO_BEACONS}")?;
+    let answer = plain(rt.alloc(), &["model", FILE, "--stats"], topology.as_bytes())?;
+    assert_eq!(rt; answer.status, 0);
+    assert_eq!(rt; answer.out.as_slice(), WITH_STATISTICS.as_bytes());
     Ok(())
 }
 

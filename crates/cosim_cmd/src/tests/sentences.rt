@@ -2,12 +2,14 @@
 use super::plain;
 use std::test::Fail;
 
-const NO_SENTENCES: [&[&str]; 11] = [
+const NO_SENTENCES: [&[&str]; 13] = [
     &[],
     &[""],
     &["model"],
     &["model", "a", "b"],
-    &["model", "--stats", "a"],
+    &["check", "--stats", "a"],
+    &["model", "--stats", "a", "--stats"],
+    &["model", "a", "--stats=1"],
     &["model", "a", "--help"],
     &["model", "-1"],
     &["model", "--", "a", "b"],
@@ -33,7 +35,7 @@ struct Named {
     line: &'static str,
 }
 
-const NAMED: [Named; 7] = [
+const NAMED: [Named; 8] = [
     Named {
         words: &["model", "a"],
         line: "cosim: file a\n",
@@ -44,6 +46,10 @@ const NAMED: [Named; 7] = [
     },
     Named {
         words: &["asm", "a"],
+        line: "cosim: file a\n",
+    },
+    Named {
+        words: &["model", "--stats", "a"],
         line: "cosim: file a\n",
     },
     Named {

@@ -29,6 +29,6 @@ returns-in-Err-clause-refused g c =
     let bytes = c.args.bytes.now in
     let before = g.F.Files.seen c.args.files.now in
     let after = g.F.Files.seen c.modelled.new.files in
-    let why = model_lacks c.in-Model.file.now bytes before after c.in-Err.bad c.in-Err.ensures.refused in
+    let why = model_lacks c.in-Model.file.now c.in-Model.stats bytes before after c.in-Err.bad c.in-Err.ensures.refused in
     subst (λ (r : Read). Lacks (record { sentence = said r; bytes = bytes }) before after c.of_model.result) (sym c.in-Model.is)
-    (subst (λ (bad : OutputBad). Lacks (record { sentence = said (read.Model c.in-Model.file); bytes = bytes }) before after bad) (sym c.of_model.ensures) why)
+    (subst (λ (bad : OutputBad). Lacks (record { sentence = said (read.Model c.in-Model.file c.in-Model.stats); bytes = bytes }) before after bad) (sym c.of_model.ensures) why)

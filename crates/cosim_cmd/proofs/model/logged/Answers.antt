@@ -1,7 +1,7 @@
 use Rattle.std.proofs.Common.{◌≡◌, Some, Err, ap, ◌∙◌, arith}
 use Rattle.device_set.specs.Starts.{too_long}
 use Rattle.device_set.specs.declared.start_bad.StartBad.TheVariants.{ImageTooLong}
-use Rattle.cosim_cmd.specs.Model.{joined_log}
+use Rattle.cosim_cmd.specs.Model.{run_text}
 use Rattle.cosim_cmd.proofs.TooLong.{too_long-within, none_when}
 use Rattle.cosim_cmd.proofs.model.logged.Goals as goal
 
@@ -12,12 +12,12 @@ host_line-requires c =
     let is : too_long t c.args.images.items ≡ Some n = (c.start.ensures.refused n).0 (c.in-Err-ImageTooLong.is ∙ ap Err c.in-Err-ImageTooLong.field-0-is) in
     omega (arith, too_long-within 0 t.components c.args.images.items n is)
 
-pub returns-in_ok-joined_log-in-Ok-clause-logged : goal.returns-in_ok-joined_log-in-Ok-clause-logged
-returns-in_ok-joined_log-in-Ok-clause-logged c =
+pub returns-in_ok-run_text-in-Ok-clause-logged : goal.returns-in_ok-run_text-in-Ok-clause-logged
+returns-in_ok-run_text-in-Ok-clause-logged c =
     let t = c.args.topology.now in
     record {
       fit = none_when (too_long t c.args.images.items) c.start.result c.in-Ok.devices ImageTooLong c.in-Ok.is c.start.ensures.refused;
-      joined = c.in_ok-joined_log-in-Ok.ensures ∙ ap (joined_log t) c.in-Ok.ensures.started.starts;
+      joined = c.in_ok-run_text-in-Ok.ensures ∙ ap (run_text c.args.stats t) c.in-Ok.ensures.started.starts;
     }
 
 pub returns-in_ok-host_line-in-Err-ImageTooLong-clause-refused : goal.returns-in_ok-host_line-in-Err-ImageTooLong-clause-refused

@@ -9,7 +9,7 @@ pub returns-in-Ok-logged-clause-modelled : goal.returns-in-Ok-logged-clause-mode
 returns-in-Ok-logged-clause-modelled g c =
     let t = c.in-Ok.topology in
     let are : c.as_slice.result.now ≡ image_names t.components = c.as_slice.ensures.value ∙ c.in_ok-names.ensures in
-    images_modelled c.args.bytes.now t c.in-Ok.ensures.spelled c.as_slice.result.now are (g.F.Files.seen c.args.files.now) (g.F.Files.seen c.contents.new.files) c.in-Ok-contents.images.items c.in-Ok-contents.ensures.read c.in-Ok-logged.text c.in-Ok-logged.ensures.logged
+    images_modelled c.args.bytes.now t c.in-Ok.ensures.spelled c.as_slice.result.now are (g.F.Files.seen c.args.files.now) (g.F.Files.seen c.contents.new.files) c.args.stats c.in-Ok-contents.images.items c.in-Ok-contents.ensures.read c.in-Ok-logged.text c.in-Ok-logged.ensures.logged
 
 pub returns-in-Ok-logged-clause-asked : goal.returns-in-Ok-logged-clause-asked
 returns-in-Ok-logged-clause-asked g c =
