@@ -11,15 +11,16 @@ use Rattle.sb_frame.specs.Faults.{KeepsRule, IsRefused, FirstFault}
 use Rattle.sb_frame.specs.Deframing.{Place, Reached, Deframing, StopsAt, IsBehind, Stands, ReadsTo, StopsIn, FinishesIn, StaysOpen, NextIs}
 
 -- without a fault, what is behind the accepted frames is the frame that is begun
-record IsOpenAt (d : Deframing) (stream : List ℕ) (given : List Msg) : Type 0 where
-  before : List ℕ
-  parts : stream ≡ before ++ d.begun
-  reached : Reached d.place given before
+pub record IsOpenAt (d : Deframing) (stream : List ℕ) (given : List Msg) : Type 0 where
+  pub before : List ℕ
+  pub parts : stream ≡ before ++ d.begun
+  pub reached : Reached d.place given before
+  pub opened : IsOpen d.begun
 
-opens_at : (d : Deframing) (stream : List ℕ) (given : List Msg) → d.fault ≡ None → Stands d stream given → IsOpenAt d stream given
+pub opens_at : (d : Deframing) (stream : List ℕ) (given : List Msg) → d.fault ≡ None → Stands d stream given → IsOpenAt d stream given
 opens_at d stream given none s =
     let behind : IsBehind d.place d.begun None s.rest = subst (λ f. IsBehind d.place d.begun f s.rest) none s.behind in
-    record { before = s.before; parts = s.parts ∙ ap (λ l. s.before ++ l) behind.0; reached = s.reached }
+    record { before = s.before; parts = s.parts ∙ ap (λ l. s.before ++ l) behind.0; reached = s.reached; opened = behind.1 }
 
 stands_open : (d : Deframing) (stream before : List ℕ) (given : List Msg) → d.fault ≡ None → stream ≡ before ++ d.begun → Reached d.place given before → IsOpen d.begun → Stands d stream given
 stands_open d stream before given none parts reached opened = record {

@@ -4,3 +4,5 @@ pub mod Pieces
 pub mod Feeding
 pub mod Lengths
 pub mod Framed
+pub mod Parsing
+pub mod Firsts

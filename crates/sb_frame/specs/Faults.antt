@@ -65,3 +65,7 @@ pub record FirstFault (kind : PortKind) (bytes : List ℕ) (b : FrameBad) : Type
   pub frames : AreFrames kind messages before
   pub rule : KeepsRule kind messages last
   pub refused : IsRefused kind last (length before) begun b
+
+-- a stream has no two first faults
+abbrev pub HasOneFirstFault : PortKind → Type 0
+HasOneFirstFault kind = (bytes : List ℕ) (a b : FrameBad) → FirstFault kind bytes a → FirstFault kind bytes b → a ≡ b

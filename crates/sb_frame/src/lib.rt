@@ -4,9 +4,11 @@
 mod deframer;
 mod frame_bad;
 mod framing;
+mod laws;
 mod start;
 mod walk;
 
 pub use deframer::Deframer;
 pub use frame_bad::FrameBad;
 pub use framing::frame;
+pub use laws::{no_fault_goes_unseen, one_first_fault};
