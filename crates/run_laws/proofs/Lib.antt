@@ -21,3 +21,4 @@ pub mod Grown
 pub mod Wholes
 pub mod Beacons
 pub mod Numbered
+pub mod RunCounts

@@ -8,8 +8,12 @@ ghost use Rattle.run_laws.specs.ByChannel.{by_sender, by_receiver};
 /// Lists by the numbers of channels serve as lists by ports: the port that sends on channel `k`, and the port
 /// that receives there, have the list of number `k`.
 pub fn channels_are_known_by_their_ports<S>()
-    ensures sender { (net : Network S) (end : ℕ) (lists : ℕ → List Msg) (k : ℕ) (ch : Channel) → IsWired net end
-        → slice_get (channels net.links) k ≡ Some ch → by_sender (channels net.links) 0 lists ch.from ≡ lists k }
-    ensures receiver { (net : Network S) (end : ℕ) (lists : ℕ → List Msg) (k : ℕ) (ch : Channel) → IsWired net end
-        → slice_get (channels net.links) k ≡ Some ch → by_receiver (channels net.links) 0 lists ch.to ≡ lists k }
+    ensures sender { (net : Network S) (end : ℕ) (lists : ℕ → List Msg) (k : ℕ) (ch : Channel)
+        → IsWired net end
+        → slice_get (channels net.links) k ≡ Some ch
+        → by_sender (channels net.links) 0 lists ch.from ≡ lists k }
+    ensures receiver { (net : Network S) (end : ℕ) (lists : ℕ → List Msg) (k : ℕ) (ch : Channel)
+        → IsWired net end
+        → slice_get (channels net.links) k ≡ Some ch
+        → by_receiver (channels net.links) 0 lists ch.to ≡ lists k }
 {}

@@ -17,7 +17,8 @@ pub fn two_beacons_log_what_they_send_and_receive()
         ∷ ((received_at_time 1500 ∷ (received_at_time 2500 ∷ [])) ∷ []) }
     ensures until_2500 { logs_of (global_until (broadcasts 500 500) 2500)
         ≡ (sent_at_time 1000 ∷ (sent_at_time 2000 ∷ [])) ∷ ((received_at_time 1500 ∷ []) ∷ []) }
-    ensures both_send { logs_of (global_until (two_beacons (sender 1000 1 1) (sender 1000 1 1) 500 500) 2000)
+    ensures both_send { logs_of
+        (global_until (two_beacons (sender 1000 1 1) (sender 1000 1 1) 500 500) 2000)
         ≡ (sent_at_time 1000 ∷ (received_at_time 1500 ∷ []))
         ∷ ((sent_at_time 1000 ∷ (received_at_time 1500 ∷ [])) ∷ []) }
 {}

@@ -12,10 +12,13 @@ ghost use Rattle.run_laws.specs.LocalRuns.{AreLocalRuns, local_run};
 /// channel was received what was sent as far as `end`, each run is that component's part of the global run
 /// (its state, log and sends), and what was sent on each channel is the transcript of the global run's sends.
 pub fn local_runs_are_the_global_run<S>()
-    ensures runs { (net : Network S) (sent received : End → List Msg) (end : ℕ) → IsWired net end → SendsEvents net.behaviour
+    ensures runs { (net : Network S) (sent received : End → List Msg) (end : ℕ) → IsWired net end
+        → SendsEvents net.behaviour
         → AreLocalRuns net sent received end → (c : ℕ) (s : S) → slice_get net.starts c ≡ Some s
         → slice_get (global_until net end).runs c ≡ Some (local_run net received c s end) }
-    ensures transcripts { (net : Network S) (sent received : End → List Msg) (end : ℕ) → IsWired net end → SendsEvents net.behaviour
-        → AreLocalRuns net sent received end → (ch : Channel) (s : S) (kind : PortKind) → IsChannel net ch s kind
+    ensures transcripts { (net : Network S) (sent received : End → List Msg) (end : ℕ)
+        → IsWired net end → SendsEvents net.behaviour
+        → AreLocalRuns net sent received end → (ch : Channel) (s : S) (kind : PortKind)
+        → IsChannel net ch s kind
         → sent ch.from ≡ transcript kind ch (sends_on ch (global_until net end)) end }
 {}

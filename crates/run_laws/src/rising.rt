@@ -9,15 +9,18 @@ ghost use Rattle.run_laws.specs.Whole.{TimersAreWithin};
 
 /// The timestamps of a transcript never fall, nor do those of its events.
 pub fn timestamps_never_fall()
-    ensures whole { (kind : PortKind) (ch : Channel) (sends : List Sent) (end : ℕ) → RisesFrom 0 (transcript kind ch sends end) }
-    ensures so_far { (kind : PortKind) (ch : Channel) (sends : List Sent) (position : Position) (end : ℕ)
+    ensures whole { (kind : PortKind) (ch : Channel) (sends : List Sent) (end : ℕ)
+        → RisesFrom 0 (transcript kind ch sends end) }
+    ensures so_far { (kind : PortKind) (ch : Channel) (sends : List Sent) (position : Position)
+        (end : ℕ)
         → RisesFrom 0 (transcript_upto kind ch sends position end) }
     ensures events { (messages : List Msg) → RisesFrom 0 messages → RisesFrom 0 (bodies messages) }
 {}
 
 /// A whole transcript reaches its end: its last timestamp isn't before it.
 pub fn a_transcript_reaches_its_end()
-    ensures { (kind : PortKind) (ch : Channel) (sends : List Sent) (end : ℕ) → 1 ≤ ch.interval → ch.interval ≤ ch.latency
+    ensures { (kind : PortKind) (ch : Channel) (sends : List Sent) (end : ℕ) → 1 ≤ ch.interval
+        → ch.interval ≤ ch.latency
         → end ≤ bound_of (transcript kind ch sends end) }
 {}
 

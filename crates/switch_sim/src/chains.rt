@@ -55,7 +55,8 @@ impl Chains {
     pub fn next(&self, place: usize) -> usize
         requires place { place < 4096 }
         requires in_bucket { slice_index self.now.buckets place < 4096 }
-        ensures { IsNextIn self.now.buckets (slice_index self.now.buckets place) (place + 1) result }
+        ensures { IsNextIn self.now.buckets (slice_index self.now.buckets place)
+            (place + 1) result }
     {
         self.links[BUCKETS + place]
     }

@@ -7,7 +7,9 @@ ghost use Rattle.switch_sim.specs.Sightings.{IsMap, known_at, known_then};
 
 /// Two switches that are alike from a time on do the same with whatever arrives from then on, and are alike again.
 pub fn alike_switches_react_alike()
-    ensures { (s other : SwitchState) (at t port : ℕ) (body : Body) → IsAlike at s other → at ≤ t → IsSettledSwitch s (t + 1) → IsSettledSwitch other (t + 1) → ReactAlike t (switch.take s t port body) (switch.take other t port body) }
+    ensures { (s other : SwitchState) (at t port : ℕ) (body : Body) → IsAlike at s other → at ≤ t
+        → IsSettledSwitch s (t + 1) → IsSettledSwitch other (t + 1)
+        → ReactAlike t (switch.take s t port body) (switch.take other t port body) }
 {}
 
 /// A switch is a map from addresses to where and when stations were seen, of at most 4,096 of them. A frame puts the

@@ -45,7 +45,8 @@ fn may_have(config: &SwitchConfig, at: Time, entry: &Entry) -> bool
 }
 
 fn all_live(config: &SwitchConfig, at: Time, entries: &[Entry]) -> bool
-    ensures { IsTrue result ↔ All (λ (e : Entry). may_have (started config.now) at e ≡ true) entries.now }
+    ensures { IsTrue result
+        ↔ All (λ (e : Entry). may_have (started config.now) at e ≡ true) entries.now }
 {
     entries.iter().all(|entry| may_have(config, at, entry))
 }

@@ -39,7 +39,8 @@ pub fn address_at(frame: &[u8], at: usize) -> Mac
 
 /// Sends a frame by a port, if it isn't that of its arrival.
 fn flood_by(message: &EthMsg, arrival: u32, port: u32, out: &mut Effects) -> Result<(), NoMemory>
-    ensures sends { OnOk result (out.new.sends ≡ out.old.sends ++ flood_by message.now arrival port) }
+    ensures sends { OnOk result (out.new.sends
+        ≡ out.old.sends ++ flood_by message.now arrival port) }
     ensures lines { out.new.lines ≡ out.old.lines }
 {
     if port == arrival {
@@ -51,7 +52,8 @@ fn flood_by(message: &EthMsg, arrival: u32, port: u32, out: &mut Effects) -> Res
 /// The last port but that of an arrival; None where there is no other.
 #[tactic(auto, using(crate::proofs::Flooding::flood_none, crate::proofs::Flooding::flood_arrival, crate::proofs::Flooding::flood_other, crate::proofs::Flooding::flood_alone))]
 fn last_other(arrival: u32, ports: u32) -> Option<u32>
-    ensures { (frame : List ℕ) → MatchOption result (flood frame arrival ports ≡ []) (λ last. flood frame arrival ports ≡ flood frame arrival last ++ (last, Eth frame) ∷ []) }
+    ensures { (frame : List ℕ) → MatchOption result (flood frame arrival ports ≡ [])
+        (λ last. flood frame arrival ports ≡ flood frame arrival last ++ (last, Eth frame) ∷ []) }
 {
     if ports == 0 || (ports == 1 && arrival == 0) {
         None
@@ -102,7 +104,8 @@ impl Relay {
         ports: u32,
         out: &mut Effects,
     ) -> Result<(), NoMemory>
-        ensures sends { OnOk result (out.new.sends ≡ out.old.sends ++ sends_of ports arrival message self) }
+        ensures sends { OnOk result (out.new.sends
+            ≡ out.old.sends ++ sends_of ports arrival message self) }
         ensures lines { out.new.lines ≡ out.old.lines }
     {
         match self {

@@ -62,8 +62,10 @@ impl Switch {
         ensures ascending { IfOk result (λ parts. Ascend parts.entries) }
         // With the configuration that the switch was started with, its parts are valid, and make a switch that answers
         // alike from then on.
-        ensures valid { IfOk result (λ parts. (config : SwitchConfig) → IsOf config self → StandsAt at (resumed config parts)) }
-        ensures again { IfOk result (λ parts. (config : SwitchConfig) → IsOf config self → IsAlike at self (resumed config parts)) }
+        ensures valid { IfOk result (λ parts. (config : SwitchConfig) → IsOf config self
+            → StandsAt at (resumed config parts)) }
+        ensures again { IfOk result (λ parts. (config : SwitchConfig) → IsOf config self
+            → IsAlike at self (resumed config parts)) }
     {
         let mut entries = self.live_entries(alloc, at)?;
         entries.sort_by_key(|entry| entry.mac)?;
@@ -123,7 +125,8 @@ impl Switch {
 
     /// The last time at which a station may have been seen whose entry is dead at `t`.
     fn aged_out(&self, t: Time) -> Option<Time>
-        ensures time { MatchOption result (t < self.now.age) (λ time. (time ≡ t - self.now.age) × (self.now.age ≤ t)) }
+        ensures time { MatchOption result (t < self.now.age)
+            (λ time. (time ≡ t - self.now.age) × (self.now.age ≤ t)) }
         ensures some_age { 1 ≤ self.now.age }
     {
         match t.0.checked_sub(self.config.age.0) {
@@ -134,7 +137,8 @@ impl Switch {
 
     /// The place for an address's entry; None where all places are taken by live entries of others.
     fn place_for(&self, t: Time, mac: Mac) -> Option<usize>
-        ensures { MatchOption result (4096 ≤ place_for self.now t mac) (λ place. (place ≡ place_for self.now t mac) × (place < 4096)) }
+        ensures { MatchOption result (4096 ≤ place_for self.now t mac)
+            (λ place. (place ≡ place_for self.now t mac) × (place < 4096)) }
     {
         let len = self.table.len();
         if let Some(place) = self.table.place_of(mac) {
@@ -156,7 +160,8 @@ impl Switch {
         ensures news { result ≡ is_news self.old t from port }
         ensures settled_then { IsSettledSwitch self.new (t + 1) }
         // There is room exactly where fewer than 4,096 entries of other addresses are live.
-        ensures room { (may_learn self.old t from ≡ true) ↔ ((is_individual from ≡ true) × (others_live self.old t from < 4096)) }
+        ensures room { (may_learn self.old t from ≡ true)
+            ↔ ((is_individual from ≡ true) × (others_live self.old t from < 4096)) }
     {
         if !from.is_individual() {
             return false;
@@ -205,7 +210,8 @@ impl Switch {
     ) -> Result<(), NoMemory>
         requires settled { IsSettledSwitch self.old (t + 1) }
         requires port_exists { port < self.old.ports }
-        ensures { OnOk result (Gives (reaction_to self.old t port message) self.new out.old out.new) }
+        ensures { OnOk result
+            (Gives (reaction_to self.old t port message) self.new out.old out.new) }
     {
         let ports = self.config.ports;
         let to = address_at(message.frame(), 0);

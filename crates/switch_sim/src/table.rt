@@ -37,7 +37,8 @@ impl Model for Table {
 
     ghost view = { λ table. table.entries.items };
 
-    ghost invariant = { λ table. IsFiled table.entries.items table.chains.buckets table.seen × (4096 ≤ vec_capacity table.entries) };
+    ghost invariant = { λ table. IsFiled table.entries.items table.chains.buckets table.seen
+        × (4096 ≤ vec_capacity table.entries) };
 }
 
 /// The bucket of an address.
