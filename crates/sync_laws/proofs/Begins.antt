@@ -13,7 +13,7 @@ use Rattle.device_api.specs.Counts.{count_of}
 use Rattle.device_api.specs.Position.{Position, is_reached, next_key}
 use Rattle.device_api.specs.Transcript.{Script, bodies, bound_of, bound_from, transcript, script}
 use Rattle.device_api.specs.World.{Network, Run, sends_by, sends_on, global_until, log_of, log_in}
-use Rattle.run_laws.specs.NextEvent.{local_script}
+use Rattle.run_laws.specs.NextEvent.{IsNothingLeft, local_script}
 use Rattle.run_laws.specs.LocalRuns.{AreLocalRuns, IsDelivered, IsPrefix, local_run}
 use Rattle.run_laws.specs.Upto.{AreLocalRunsUpto, local_run_upto}
 use Rattle.run_laws.specs.Wired.{IsWired, SendsEvents, IsChannel}
@@ -98,11 +98,14 @@ module _ {V : Type 0} (net : Network V) (settled : V → ℕ → Type 0) (end : 
     not_past r has (Some d) e = has.done (Tick d) e
 
     -- nothing is left for a component
-    run_is : (c : ℕ) (s : V) (r : Runner V) → slice_get net.starts c ≡ Some s → slice_get runners c ≡ Some r → local_run_upto net received c s (positions c) end ≡ local_run net received c s end
-    run_is c s r starts is = run_whole net.behaviour (length (net.behaviour.ports s)) (λ port. bodies (received (record { component = c; port = port }))) stands.handled (inbox_in r.incoming) s (positions c) end stands.boxes (record {
+    pub nothing_left_for : (c : ℕ) (s : V) (r : Runner V) → slice_get net.starts c ≡ Some s → slice_get runners c ≡ Some r → IsNothingLeft net.behaviour (length (net.behaviour.ports s)) (inbox_in r.incoming) (local_run_upto net received c s (positions c) end).state end
+    nothing_left_for c s r starts is = record {
       messages = λ port lt m more head. subst (λ e. e ≤ m.at) (whole.ends c r is) ((ended c r is).done (Take port m.at) (head_there r.incoming port m more head));
-      tick = subst (λ e. IsNotPast e (net.behaviour.due (local_run_upto net received c s (positions c) e).state)) (whole.ends c r is) (subst (λ d. IsNotPast r.end (net.behaviour.due d)) stands.device (not_past r (ended c r is) (net.behaviour.due r.device) refl));
-    })
+      tick = subst (λ e. IsNotPast e (net.behaviour.due (local_run_upto net received c s (positions c) e).state)) (whole.ends c r is) (subst (λ d. IsNotPast r.end (net.behaviour.due d)) (whole.standing c s r starts is).device (not_past r (ended c r is) (net.behaviour.due r.device) refl));
+    }
+
+    pub run_is : (c : ℕ) (s : V) (r : Runner V) → slice_get net.starts c ≡ Some s → slice_get runners c ≡ Some r → local_run_upto net received c s (positions c) end ≡ local_run net received c s end
+    run_is c s r starts is = run_whole net.behaviour (length (net.behaviour.ports s)) (λ port. bodies (received (record { component = c; port = port }))) stands.handled (inbox_in r.incoming) s (positions c) end stands.boxes (nothing_left_for c s r starts is)
       where
         stands : Stands net.behaviour settled s (positions c) (of_component c received) (of_component c sent) r
         stands = whole.standing c s r starts is

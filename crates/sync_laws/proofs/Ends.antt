@@ -125,7 +125,7 @@ module _ {V : Type 0} (net : Network V) (settled : V → ℕ → Type 0) (end : 
     pub receiver : HasPort net settled positions received sent runners ch.to
     receiver = port_at ch.to (owned net ch.to (channel_joined net wired k ch is).at_receiver)
 
-    kind_of : (at : End) (port : HasPort net settled positions received sent runners at) → kind_at (map net.behaviour.ports net.starts) at ≡ Some port.kind
+    pub kind_of : (at : End) (port : HasPort net settled positions received sent runners at) → kind_at (map net.behaviour.ports net.starts) at ≡ Some port.kind
     kind_of at port = ap (λ (o : Option (List PortKind)). option_and_then (λ ports. slice_get ports at.port) o) (slice_get-map net.behaviour.ports net.starts at.component ∙ ap (option_map net.behaviour.ports) port.starts_so) ∙ port.has_kind
 
     -- the receiving port's kind is the partner of the sending port's

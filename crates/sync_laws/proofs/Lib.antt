@@ -13,3 +13,11 @@ pub mod Steps
 pub mod FirstWhole
 pub mod Stuck
 pub mod InARow
+pub mod Totals
+pub mod Tallied
+pub mod Counted
+pub mod Out
+pub mod Fronts
+pub mod Outboxes
+pub mod Falls
+pub mod Nothing

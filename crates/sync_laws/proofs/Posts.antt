@@ -111,14 +111,14 @@ posts_late t p (x ∷ more) o some late = at (eqb x.0 p) (posts_late t p more (p
 more_counted : (n k : ℕ) → min (min n k + 1) k ≡ min (n + 1) k
 more_counted n k = omega arith
 
-plus_none : (n : ℕ) → n + 0 ≡ n
+pub plus_none : (n : ℕ) → n + 0 ≡ n
 plus_none n = omega arith
 
-count_by-append : {X : Type 0} (test : X → Bool) (xs ys : List X) → count_by test (xs ++ ys) ≡ count_by test xs + count_by test ys
+pub count_by-append : {X : Type 0} (test : X → Bool) (xs ys : List X) → count_by test (xs ++ ys) ≡ count_by test xs + count_by test ys
 count_by-append test xs ys = sum_by-append (λ x. cond (test x) 1 0) xs ys
 
 -- an event is no null message
-not_sync : (b : Body) → is_event b ≡ true → is_sync b ≡ false
+pub not_sync : (b : Body) → is_event b ≡ true → is_sync b ≡ false
 not_sync body.Sync e = absurd (false≢true e)
 not_sync (body.Intro intro) e = refl
 not_sync (body.Dev message) e = refl
@@ -126,7 +126,7 @@ not_sync (body.Host message) e = refl
 not_sync (body.Mem message) e = refl
 not_sync (body.Eth frame) e = refl
 
-no_sync : (m : Msg) → is_sync m.body ≡ false → count_by (λ (m : Msg). is_sync m.body) (m ∷ []) ≡ 0
+pub no_sync : (m : Msg) → is_sync m.body ≡ false → count_by (λ (m : Msg). is_sync m.body) (m ∷ []) ≡ 0
 no_sync m e = ap (λ b. sum_by (λ (x : Bool). cond x 1 0) (b ∷ [])) e
 
 count_of_event : (messages : List Msg) (m : Msg) → is_event m.body ≡ true → count_of (messages ++ m ∷ []) ≡ record { syncs = (count_of messages).syncs; sends = one_more (count_of messages).sends }

@@ -29,17 +29,17 @@ use Rattle.sync_laws.proofs.Reacted.{plans_posted}
 -- LISTS BY PORT
 
 -- a list of one port of a component is another
-here_at : (at : End) (messages : List Msg) (lists : End → List Msg) → with_port at.port messages (of_component at.component lists) ≡ of_component at.component (with_end at messages lists)
+pub here_at : (at : End) (messages : List Msg) (lists : End → List Msg) → with_port at.port messages (of_component at.component lists) ≡ of_component at.component (with_end at messages lists)
 here_at at messages lists = fun_ext (λ p. ap (λ b. cond (b && eqb p at.port) messages (lists (record { component = at.component; port = p }))) (sym (eq-eqb at.component at.component refl)))
 
 -- those of the other components stay
-other_at : (at : End) (messages : List Msg) (lists : End → List Msg) (c : ℕ) → (c ≡ at.component → ⊥) → of_component c lists ≡ of_component c (with_end at messages lists)
+pub other_at : (at : End) (messages : List Msg) (lists : End → List Msg) (c : ℕ) → (c ≡ at.component → ⊥) → of_component c lists ≡ of_component c (with_end at messages lists)
 other_at at messages lists c differ = fun_ext (λ p. ap (λ b. cond (b && eqb p at.port) messages (lists (record { component = c; port = p }))) (sym (ne_eqb c at.component differ)))
 
-end_same : (at other : End) (messages : List Msg) (lists : End → List Msg) → same_end other at ≡ true → with_end at messages lists other ≡ messages
+pub end_same : (at other : End) (messages : List Msg) (lists : End → List Msg) → same_end other at ≡ true → with_end at messages lists other ≡ messages
 end_same at other messages lists e = cond-true (same_end other at) messages (lists other) e
 
-end_other : (at other : End) (messages : List Msg) (lists : End → List Msg) → same_end other at ≡ false → with_end at messages lists other ≡ lists other
+pub end_other : (at other : End) (messages : List Msg) (lists : End → List Msg) → same_end other at ≡ false → with_end at messages lists other ≡ lists other
 end_other at other messages lists e = cond-false (same_end other at) messages (lists other) e
 
 -- RUNNERS
