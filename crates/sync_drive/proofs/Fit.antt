@@ -1,9 +1,13 @@
 -- What a turn does keeps a driver standing.
 use Rattle.std.proofs.Common.{◌≡◌, ℕ, ◌≤◌, List, [], ◌∷◌, ◌++◌, length, sym, ◌∙◌, subst}
+use Rattle.std.specs.declared.result.Result.{Result}
+use Rattle.std.specs.declared.result.Result.TheVariants.{Ok, Err}
+use Rattle.std.specs.Prelude.{IfOk, OnOk}
 use Rattle.cs_base.specs.declared.port_kind.PortKind.{PortKind}
 use Rattle.sb_message.specs.Stream.{IsStream}
 use Rattle.sb_message.specs.declared.message.Msg.{Msg}
 use Rattle.device_api.specs.Behaviour.{Behaviour, IsLawful}
+use Rattle.sync_rule.specs.declared.run_bad.RunBad.{RunBad}
 use Rattle.sync_rule.specs.declared.runner.Runner.{Runner}
 use Rattle.sync_rule.specs.Events.{EventsRan, IsReadyThroughout}
 use Rattle.sync_drive.specs.declared.turn.Turn.{Turn}
@@ -52,3 +56,7 @@ module _ {V T R : Type 0} (b : Behaviour V) (settled : V → ℕ → Type 0) (la
     module _ (pushes : T → Msg → T → Type 0) (refuses : T → T → Type 0) (push_adds : (a c : T) (m : Msg) (sent : List Msg) → pushes a m c → tx_stands a sent → IsStream (tx_kind a) (sent ++ m ∷ []) → tx_stands c (sent ++ m ∷ [])) (push_kind : (a c : T) (m : Msg) → pushes a m c → tx_kind c ≡ tx_kind a) (refusal_keeps : (a c : T) (sent : List Msg) → refuses a c → tx_stands a sent → tx_stands c sent) (refusal_kind : (a c : T) → refuses a c → tx_kind c ≡ tx_kind a) where
       pub turn_stands : (start : V) (old new : Runner V) (txs txs' : List T) (rxs rxs' : List R) (turn : Turn) → StandsFrom b settled tx_kind tx_stands rx_kind rx_stands start old txs rxs → Turned b pushes refuses pops empties old txs rxs new txs' rxs' turn → StandsFrom b settled tx_kind tx_stands rx_kind rx_stands start new txs' rxs'
       turn_stands start old new txs txs' rxs rxs' turn stood made = from_events start made.after_polls txs' rxs' (from_polls start made.after_sends txs' rxs (from_sends pushes refuses push_adds push_kind refusal_keeps refusal_kind start old txs rxs stood (length txs) made.sends made.after_sends txs' made.sent) (length rxs) made.receipts made.after_polls rxs' made.polled) made.events new made.ran.ran
+
+      pub fit_if : (old new : Runner V) (txs txs' : List T) (rxs rxs' : List R) → IsFit b settled tx_kind tx_stands rx_kind rx_stands old txs rxs → (answer : Result Turn RunBad) → IfOk answer (Turned b pushes refuses pops empties old txs rxs new txs' rxs') → OnOk answer (IsFit b settled tx_kind tx_stands rx_kind rx_stands new txs' rxs')
+      fit_if old new txs txs' rxs rxs' fit (Ok turn) made = record { start = fit.start; stands = turn_stands fit.start old new txs txs' rxs rxs' turn fit.stands made }
+      fit_if old new txs txs' rxs rxs' fit (Err bad) none = none

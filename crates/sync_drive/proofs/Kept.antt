@@ -1,5 +1,5 @@
 -- Sends, receipts and events keep a runner and its ends standing.
-use Rattle.std.proofs.Common.{◌≡◌, ℕ, ◌+◌, ◌<◌, ◌≤◌, ◌⊎◌, inl, inr, Bool, true, false, Ok, List, [], ◌∷◌, ◌++◌, length, Some, refl, sym, ap, ◌∙◌, subst, arith}
+use Rattle.std.proofs.Common.{◌≡◌, ℕ, ◌+◌, ◌<◌, ◌≤◌, ◌⊎◌, inl, inr, Bool, true, false, Ok, Err, List, [], ◌∷◌, ◌++◌, length, Some, refl, sym, ap, ◌∙◌, subst, arith}
 use Rattle.std.specs.Prelude.{slice_get, slice_set}
 use Rattle.std.proofs.lemmas.Option.{slice_get_within}
 use Rattle.std.proofs.lemmas.List.{length-set}
@@ -11,6 +11,7 @@ use Rattle.device_api.specs.Behaviour.{Behaviour, IsLawful}
 use Rattle.device_api.specs.Position.{Position}
 use Rattle.run_laws.specs.NextEvent.{with_port}
 use Rattle.run_laws.proofs.Lists.{there_below}
+use Rattle.sync_rule.specs.declared.run_bad.RunBad.{RunBad}
 use Rattle.sync_rule.specs.declared.runner.Runner.{Runner}
 use Rattle.sync_rule.specs.ManyPorts.{outbox_in}
 use Rattle.sync_rule.specs.Steps.{Passes, Keeps, Receives, Processed, MaySendNext, SendsBy, PollsBy}
@@ -23,7 +24,7 @@ use Rattle.sync_laws.proofs.Events.{event_stands}
 use Rattle.sync_laws.proofs.Passed.{next_streams, send_stands, receipt_stands}
 use Rattle.sync_laws.proofs.Changed.{port_same, port_other}
 use Rattle.sync_drive.specs.Standing.{SentOn, HeardOn, SendsStand, PollsStand}
-use Rattle.sync_drive.specs.Tries.{SendsRan, PollsRan}
+use Rattle.sync_drive.specs.Tries.{SendsRan, PollsRan, PollsFailed}
 use Rattle.sync_drive.specs.Tries.SendsRan.{no_sends, one_sent, one_kept}
 use Rattle.sync_drive.specs.Tries.PollsRan.{no_polls, one_heard, one_empty}
 use Rattle.sync_drive.proofs.Ends.{ends_set, out_there, kind_out, kind_in, many_in, many_out}
@@ -126,6 +127,9 @@ module _ {V R : Type 0} (pops : R → Msg → R → Type 0) (empties : R → R �
 
   pub poll_none : heard ≡ false → PollsBy pops empties before after mid new k (Ok heard) → n' ≡ n → PollsRan pops empties r rxs (k + 1) n' new (slice_set xs k after)
   poll_none is polls n_is = (let none = subst (λ x. PollsBy pops empties before after mid new k (Ok x)) is polls in subst (λ x. PollsRan pops empties r rxs (k + 1) x new (slice_set xs k after)) (sym n_is) (one_empty k n mid new xs before after so_far there none.0 none.1))
+
+pub poll_failed : {V R : Type 0} (pops : R → Msg → R → Type 0) (empties : R → R → Type 0) (r : Runner V) (rxs : List R) (k n : ℕ) (mid new : Runner V) (xs : List R) (before after : R) (bad : RunBad) → PollsRan pops empties r rxs k n mid xs → slice_get xs k ≡ Some before → PollsBy pops empties before after mid new k (Err bad) → PollsFailed pops empties r rxs new (slice_set xs k after) bad
+poll_failed pops empties r rxs k n mid new xs before after bad so_far there failed = record { port = k; receipts = n; mid = mid; ends = xs; so_far = so_far; before = before; after = after; there = there; failed = failed; left = refl }
 
 pub polls_length : {V R : Type 0} (pops : R → Msg → R → Type 0) (empties : R → R → Type 0) (r : Runner V) (rxs : List R) (k n : ℕ) (s : Runner V) (xs : List R) → PollsRan pops empties r rxs k n s xs → length xs ≡ length rxs
 polls_length pops empties r rxs _ _ _ _ no_polls = refl

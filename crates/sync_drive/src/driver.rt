@@ -1,6 +1,7 @@
-ghost use Rattle.std.specs.Prelude.{◌≡◌, ◌+◌, ◌%◌, ◌^◌, IfOk};
+ghost use Rattle.std.specs.Prelude.{◌≡◌, ◌+◌, ◌%◌, ◌^◌, IfOk, IfErr, OnOk};
+ghost use Rattle.sync_drive.specs.declared.turn.Turn.TheVariants.{Moved};
 ghost use Rattle.sync_drive.specs.Standing.{IsFit};
-ghost use Rattle.sync_drive.specs.Turns.{Turned, still_after};
+ghost use Rattle.sync_drive.specs.Turns.{Turned, Failed, NothingMoved, still_after};
 
 use crate::make::make;
 use crate::turn::Turn;
@@ -20,13 +21,13 @@ pub struct Driver<V, T, R> {
     still: u32,
 }
 
-/// One more turn in a row that moved nothing, 64 at most; none after one that moved something.
-fn still_after(turn: Turn, still: u32) -> u32
-    ensures { result ≡ still_after turn still }
+/// One more turn in a row that moved nothing, 64 at most; none after one that moved something or failed.
+fn still_after(answer: &Result<Turn, RunBad>, still: u32) -> u32
+    ensures { result ≡ still_after answer.now still }
 {
-    match turn {
-        Turn::Moved => 0,
-        Turn::Idle(_) | Turn::Ended => { if still < 64 { still + 1 } else { 64 } }
+    match answer {
+        Ok(Turn::Moved) | Err(_) => 0,
+        Ok(Turn::Idle(_) | Turn::Ended) => { if still < 64 { still + 1 } else { 64 } }
     }
 }
 
@@ -56,18 +57,27 @@ impl<V: Device, T: TxPort, R: RxPort> Driver<V, T, R> {
         ensures turned { IfOk result (Turned V.behaviour T.pushes T.refuses R.pops R.empties
             self.old.runner self.old.txs.items self.old.rxs.items
             self.new.runner self.new.txs.items self.new.rxs.items) }
+        ensures unmoved { IfOk result (λ turn. (turn ≡ Moved → ⊥)
+            → NothingMoved V.behaviour T.refuses R.empties
+            self.old.runner self.old.txs.items self.old.rxs.items
+            self.new.runner self.new.txs.items self.new.rxs.items) }
+        ensures failed { IfErr result (Failed T.pushes T.refuses R.pops R.empties
+            self.old.runner self.old.txs.items self.old.rxs.items
+            self.new.runner self.new.txs.items self.new.rxs.items) }
+        ensures fit { OnOk result (IsFit V.behaviour V.settled T.kind T.stands R.kind R.stands
+            self.new.runner self.new.txs.items self.new.rxs.items) }
         ensures turns { self.new.turns ≡ (self.old.turns + 1) % 2 ^ 64 }
-        ensures still { IfOk result (λ turn. self.new.still ≡ still_after turn self.old.still) }
+        ensures still { self.new.still ≡ still_after result self.old.still }
     {
         self.turns = self.turns.wrapping_add(1);
-        let turn = make(
+        let answer = make(
             alloc,
             &mut self.runner,
             self.txs.as_mut_slice(),
             self.rxs.as_mut_slice(),
-        )?;
-        self.still = still_after(turn, self.still);
-        Ok(turn)
+        );
+        self.still = still_after(&answer, self.still);
+        answer
     }
 
     pub fn runner(&self) -> &Runner<V>

@@ -1,6 +1,6 @@
-ghost use Rattle.std.specs.Prelude.{IfOk};
+ghost use Rattle.std.specs.Prelude.{MatchResult};
 ghost use Rattle.sync_drive.specs.Standing.{IsFit};
-ghost use Rattle.sync_drive.specs.Turns.{Turned, Cause, HasStopped};
+ghost use Rattle.sync_drive.specs.Turns.{Turned, Failed, Cause, HasStopped};
 
 use crate::tries::{poll_all, send_all};
 use crate::turn::{Turn, Why};
@@ -32,7 +32,10 @@ pub(crate) fn make<V: Device, T: TxPort, R: RxPort>(
 ) -> Result<Turn, RunBad>
     requires { IsFit V.behaviour V.settled T.kind T.stands R.kind R.stands runner.old
         txs.old rxs.old }
-    ensures { IfOk result (Turned V.behaviour T.pushes T.refuses R.pops R.empties runner.old
+    ensures { MatchResult result
+        (Turned V.behaviour T.pushes T.refuses R.pops R.empties runner.old
+        txs.old rxs.old runner.new txs.new rxs.new)
+        (Failed T.pushes T.refuses R.pops R.empties runner.old
         txs.old rxs.old runner.new txs.new rxs.new) }
 {
     let sent = send_all(runner, txs);

@@ -1,5 +1,5 @@
-ghost use Rattle.std.specs.Prelude.{◌≡◌, length, IfOk};
-ghost use Rattle.sync_drive.specs.Tries.{SendsRan, PollsRan};
+ghost use Rattle.std.specs.Prelude.{◌≡◌, length, MatchResult};
+ghost use Rattle.sync_drive.specs.Tries.{SendsRan, PollsRan, PollsFailed};
 ghost use Rattle.sync_drive.specs.Standing.{SendsStand, PollsStand};
 
 use device_api::Device;
@@ -27,8 +27,9 @@ pub(crate) fn poll_all<V: Device, R: RxPort>(
     rxs: &mut [R],
 ) -> Result<usize, RunBad>
     requires stands { PollsStand V.behaviour V.settled R.kind R.stands runner.old rxs.old }
-    ensures { IfOk result (λ n. PollsRan R.pops R.empties runner.old rxs.old (length rxs.old) n
-        runner.new rxs.new) }
+    ensures { MatchResult result
+        (λ n. PollsRan R.pops R.empties runner.old rxs.old (length rxs.old) n runner.new rxs.new)
+        (PollsFailed R.pops R.empties runner.old rxs.old runner.new rxs.new) }
 {
     let mut heard = 0;
     for port in 0..rxs.len() {

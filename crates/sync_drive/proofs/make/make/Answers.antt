@@ -1,6 +1,8 @@
 use Rattle.std.proofs.Common.{◌<◌, length, arith, subst}
+use Rattle.std.proofs.lemmas.Result.{err_from_is_err_and}
 use Rattle.sync_drive.specs.Turns.{Cause}
 use Rattle.sync_drive.specs.Turns.Cause.{it_moved}
+use Rattle.sync_drive.specs.Turns.Failed.{in_polls, in_events}
 use Rattle.sync_drive.proofs.Causes.{some_of}
 use Rattle.sync_drive.proofs.Fit.{for_polls, for_events, few_in, few_out, fit_sends, fit_polls, fit_events}
 use Rattle.sync_drive.proofs.make.make.Goals.{else-sent-eq0-via-then-sent-eq0+then-heard-eq0+else-ran-eq0, else-sent-eq0-via-then-sent-eq0+else-heard-eq0, else-sent-eq0-via-else-sent-eq0}
@@ -57,3 +59,11 @@ returns-else-sent-eq0 g c = record {
     | else-sent-eq0-via-else-sent-eq0 w ↦ let some : 0 < c.send_all-sent.result = some_of c.send_all-sent.result w.if-sent-eq0.false in omega arith
   ]);
 }
+
+pub returns-in_err-heard : goal.returns-in_err-heard
+returns-in_err-heard g c =
+    let answer = err_from_is_err_and c.from_residual.result c.from_residual.ensures.1 in
+    rw (answer.1, answer.2) (in_polls c.send_all-sent.result c.send_all-sent.new.runner c.in_err-heard.field-0.0 c.send_all-sent.ensures c.in_err-heard.ensures)
+
+pub returns-in-Err : goal.returns-in-Err
+returns-in-Err g c = in_events c.send_all-sent.result c.in_ok-heard.heard c.send_all-sent.new.runner c.poll_all.new.runner c.send_all-sent.ensures c.in_ok-heard.ensures
