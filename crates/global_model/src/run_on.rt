@@ -24,6 +24,7 @@ pub struct Stood {
 
 /// A component whose moment `from` is over, and which has something to do again at `first`, ticks on as long as nothing
 /// arrives for it and no other component's moment comes. It stops after a tick that sends. The agenda is asked once.
+#[inline(never)]
 pub fn run_on<V: Device>(
     alloc: Global,
     component: u32,

@@ -183,6 +183,7 @@ impl Host {
     }
 
     #[tactic(auto, unfolding(crate::specs::Accesses::loads_at))]
+    #[cold]
     #[inline(never)]
     fn load_device(
         &mut self,
@@ -320,6 +321,7 @@ impl Host {
     }
 
     #[tactic(auto, unfolding(crate::specs::Accesses::stores_at))]
+    #[cold]
     #[inline(never)]
     fn store_device(
         &mut self,

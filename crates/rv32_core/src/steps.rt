@@ -32,8 +32,8 @@ impl Core {
         self.act(did)
     }
 
-    // A step, told without what an access asks for: an answer of one word, which the caller has in a register.
-    #[inline(never)]
+    // A step, told without what an access asks for: where it is inlined, what was done is a branch, and no value.
+    #[inline(always)]
     fn run(&mut self, word: Option<u32>) -> Did
         requires { self.old.pending ≡ Pending.Nothing }
         ensures state { self.new ≡ (stepped self.old word).state }
@@ -129,6 +129,8 @@ impl Core {
     }
 
     #[tactic(auto, unfolding(crate::specs::Execution::trapped))]
+    #[cold]
+    #[inline(never)]
     fn trap(&mut self, cause: u32) -> Did
         ensures state { self.new ≡ (trapped cause self.old).state }
         ensures act { result ≡ did (trapped cause self.old).act }
@@ -262,6 +264,8 @@ impl Core {
     }
 
     #[tactic(auto, unfolding(crate::specs::Execution::reads))]
+    #[cold]
+    #[inline(never)]
     fn read_csr(&mut self, rd: u32, number: u32) -> Did
         ensures state { self.new ≡ (reads self.old rd number).state }
         ensures act { result ≡ did (reads self.old rd number).act }
@@ -273,6 +277,8 @@ impl Core {
     }
 
     #[tactic(auto, unfolding(crate::specs::Execution::swaps))]
+    #[cold]
+    #[inline(never)]
     fn swap_csr(&mut self, rd: u32, number: u32, value: u32) -> Did
         ensures state { self.new ≡ (swaps self.old rd number value).state }
         ensures act { result ≡ did (swaps self.old rd number value).act }
@@ -297,6 +303,8 @@ impl Core {
     }
 
     #[tactic(auto, unfolding(crate::specs::Execution::sets))]
+    #[cold]
+    #[inline(never)]
     fn set_csr(&mut self, rd: u32, number: u32, source: u32, bits: u32) -> Did
         ensures state { self.new ≡ (sets self.old rd number source bits).state }
         ensures act { result ≡ did (sets self.old rd number source bits).act }
@@ -308,6 +316,8 @@ impl Core {
     }
 
     #[tactic(auto, unfolding(crate::specs::Execution::clears))]
+    #[cold]
+    #[inline(never)]
     fn clear_csr(&mut self, rd: u32, number: u32, source: u32, bits: u32) -> Did
         ensures state { self.new ≡ (clears self.old rd number source bits).state }
         ensures act { result ≡ did (clears self.old rd number source bits).act }
@@ -318,6 +328,8 @@ impl Core {
         self.swap_csr(rd, number, self.csr_or_zero(number) & !bits)
     }
 
+    #[cold]
+    #[inline(never)]
     fn set_csr_immediate(&mut self, rd: u32, number: u32, imm: i32) -> Did
         ensures state { self.new ≡ (sets self.old rd number (word_of imm) (word_of imm)).state }
         ensures act { result ≡ did (sets self.old rd number (word_of imm) (word_of imm)).act }
@@ -326,6 +338,8 @@ impl Core {
         self.set_csr(rd, number, bits, bits)
     }
 
+    #[cold]
+    #[inline(never)]
     fn clear_csr_immediate(&mut self, rd: u32, number: u32, imm: i32) -> Did
         ensures state { self.new ≡ (clears self.old rd number (word_of imm) (word_of imm)).state }
         ensures act { result ≡ did (clears self.old rd number (word_of imm) (word_of imm)).act }
@@ -335,6 +349,8 @@ impl Core {
     }
 
     #[tactic(auto, unfolding(crate::specs::Execution::returns))]
+    #[cold]
+    #[inline(never)]
     fn return_from_trap(&mut self) -> Did
         ensures state { self.new ≡ returns self.old }
         ensures act { result ≡ Did.Done }
@@ -347,6 +363,8 @@ impl Core {
     }
 
     #[tactic(auto, unfolding(crate::specs::Execution::waits))]
+    #[cold]
+    #[inline(never)]
     fn wait(&mut self) -> Did
         ensures state { self.new ≡ (waits self.old).state }
         ensures act { result ≡ did (waits self.old).act }
