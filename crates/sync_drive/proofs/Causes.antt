@@ -1,25 +1,20 @@
 -- Why a component moves nothing by which no event may be processed.
-use Rattle.std.proofs.Common.{◌≡◌, ℕ, zero, suc, ◌+◌, ◌<◌, ◌≤◌, Bool, true, false, leb, ltb, List, length, Option, Some, None, refl, subst, arith, le_refl}
-use Rattle.std.specs.Prelude.{slice_get, MatchOption}
+use Rattle.std.proofs.Common.{◌≡◌, ℕ, zero, suc, ◌<◌, ◌≤◌, Bool, true, false, leb, ltb, length, Option, Some, None, refl, subst, arith, le_refl}
+use Rattle.std.specs.Prelude.{MatchOption}
 use Rattle.std.proofs.lemmas.Bool.{leb-true, leb-false, ltb-true, ltb-false}
 use Rattle.device_api.specs.Behaviour.{Behaviour}
-use Rattle.run_laws.proofs.Lists.{there_below}
 use Rattle.sync_rule.specs.declared.next.Next.{Next}
 use Rattle.sync_rule.specs.declared.timer.Timer.{Timer}
 use Rattle.sync_rule.specs.declared.runner.Runner.{Runner}
 use Rattle.sync_rule.specs.Times.{timer_of, head_of, time_of, needed_for}
-use Rattle.sync_rule.specs.Soonest.{Soonest, sooner_at}
+use Rattle.sync_rule.specs.Soonest.{Soonest}
 use Rattle.sync_rule.specs.ManyPorts.{Bars}
 use Rattle.sync_rule.specs.Next.{IsNext, IsDone, IsEnabled, HasEnded, HasHeard, IsAllSent, IsBarred, IsUnbarred, key_of}
 use Rattle.sync_rule.specs.Fronts.{IsIdleFront}
 use Rattle.sync_rule.specs.Choice.{chosen}
 use Rattle.sync_rule.proofs.Chosen.{chosen_is, key_time}
 use Rattle.sync_rule.proofs.Keys.{at_most_time}
-use Rattle.sync_rule.proofs.Soonests.{soonest_start, soonest_more}
-
-every_soonest : {X : Type 0} (time : X → Option ℕ) (xs : List X) (n : ℕ) → n ≤ length xs → (best : Option Timer) × Soonest time xs n best
-every_soonest time xs zero le = (None, soonest_start time xs)
-every_soonest {X} time xs (suc n) le = let before : (best : Option Timer) × Soonest time xs n best = every_soonest time xs n (omega arith) in let x : (y : X) × (slice_get xs n ≡ Some y) = there_below xs n le in (sooner_at before.0 n (time x.0), subst (λ k. Soonest time xs k (sooner_at before.0 n (time x.0))) (let same : n + 1 ≡ suc n = omega arith in same) (soonest_more time xs n x.0 x.1 before.0 before.1))
+use Rattle.sync_rule.proofs.Soonests.{every_soonest}
 
 module _ {V : Type 0} (b : Behaviour V) (r : Runner V) where
   heard_far : (needed : ℕ) → ((p : ℕ) → Bars r.incoming needed p → ⊥) → HasHeard r.incoming needed

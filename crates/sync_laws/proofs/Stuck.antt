@@ -22,13 +22,13 @@ use Rattle.sync_rule.specs.declared.timer.Timer.{Timer}
 use Rattle.sync_rule.specs.declared.runner.Runner.{Runner}
 use Rattle.sync_rule.specs.Ports.{In}
 use Rattle.sync_rule.specs.Times.{timer_of, head_of, quiet_of, quiet_bound, time_of, needed_for}
-use Rattle.sync_rule.specs.Soonest.{IsTimed, Soonest, sooner_at}
+use Rattle.sync_rule.specs.Soonest.{IsTimed, Soonest}
 use Rattle.sync_rule.specs.Next.{IsPending, IsNext, IsEnabled, HasEnded, HasHeard, IsAllSent, key_of}
 use Rattle.sync_rule.specs.Fronts.{IsIdleFront}
 use Rattle.sync_rule.specs.Choice.{chosen}
 use Rattle.sync_rule.proofs.Chosen.{chosen_is, key_time, timed_within}
 use Rattle.sync_rule.proofs.Keys.{at_most_time}
-use Rattle.sync_rule.proofs.Soonests.{soonest_start, soonest_more}
+use Rattle.sync_rule.proofs.Soonests.{every_soonest}
 use Rattle.sync_laws.specs.Stands.{Stands}
 use Rattle.sync_laws.specs.Whole.{IsWhole, IsStill, CanProcess, HaveEnded, of_component}
 use Rattle.sync_laws.proofs.Changed.{get_mapped}
@@ -40,10 +40,6 @@ rank_of : Next → ℕ
 rank_of (Sync p u) = u + u
 rank_of (Take p t) = t + t + 1
 rank_of (Tick t) = t + t + 1
-
-every_soonest : {X : Type 0} (time : X → Option ℕ) (xs : List X) (n : ℕ) → n ≤ length xs → (best : Option Timer) × Soonest time xs n best
-every_soonest time xs zero le = (None, soonest_start time xs)
-every_soonest {X} time xs (suc n) le = let before : (best : Option Timer) × Soonest time xs n best = every_soonest time xs n (omega arith) in let x : (y : X) × (slice_get xs n ≡ Some y) = there_below xs n le in (sooner_at before.0 n (time x.0), subst (λ k. Soonest time xs k (sooner_at before.0 n (time x.0))) (let same : n + 1 ≡ suc n = omega arith in same) (soonest_more time xs n x.0 x.1 before.0 before.1))
 
 module _ {V : Type 0} (b : Behaviour V) where
   times_of : (r : Runner V) (n m : Next) → is_at_most (key_of n) (key_of m) ≡ true → time_of n ≤ time_of m

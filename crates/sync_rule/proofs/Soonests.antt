@@ -1,8 +1,8 @@
 -- The first of the least times, one element after another.
-use Rattle.std.proofs.Common.{◌≡◌, ℕ, ◌+◌, ◌<◌, ◌≤◌, ◌⊎◌, inl, inr, Bool, true, false, cond, ltb, List, Option, Some, None, refl, sym, ap, ◌∙◌, arith, eq-or-lt_of_le}
-use Rattle.std.specs.Prelude.{slice_get}
+use Rattle.std.proofs.Common.{◌≡◌, ℕ, zero, suc, ◌+◌, ◌<◌, ◌≤◌, ◌⊎◌, inl, inr, Bool, true, false, cond, ltb, List, length, Option, Some, None, refl, sym, ap, ◌∙◌, subst, arith, eq-or-lt_of_le}
+use Rattle.std.specs.Prelude.{slice_get, get_or}
 use Rattle.std.proofs.lemmas.Bool.{ltb-true, ltb-false}
-use Rattle.std.proofs.lemmas.Option.{none-some, same_Some}
+use Rattle.std.proofs.lemmas.Option.{none-some, same_Some, slice_get_cases}
 use Rattle.sync_rule.specs.declared.timer.Timer.{Timer}
 use Rattle.sync_rule.specs.Soonest.{IsTimed, IsSoonest, AreUntimed, Soonest, sooner_at, sooner_than}
 
@@ -64,3 +64,12 @@ module _ {X : Type 0} (time_of : X → Option ℕ) (xs : List X) (n : ℕ) (x : 
       from : (t : Option ℕ) → time_of x ≡ t → Soonest time_of xs (n + 1) (sooner_at best n t)
       from None e = untimed_too e best s
       from (Some t) e = timed_too t e best s
+
+-- there is a first of the least times of each first part of a list, if any element has a time
+pub every_soonest : {X : Type 0} (time_of : X → Option ℕ) (xs : List X) (n : ℕ) → n ≤ length xs → (best : Option Timer) × Soonest time_of xs n best
+every_soonest time_of xs zero le = (None, soonest_start time_of xs)
+every_soonest {X} time_of xs (suc n) le = more (slice_get_cases xs n).1 (every_soonest time_of xs n (omega arith))
+  where
+    more : ((x : X) × (n < length xs) × (slice_get xs n ≡ Some x) × (get_or xs n x ≡ x)) ⊎ ((length xs ≤ n) × (slice_get xs n ≡ None)) → ((best : Option Timer) × Soonest time_of xs n best) → (best : Option Timer) × Soonest time_of xs (suc n) best
+    more (inl found) before = (sooner_at before.0 n (time_of found.0), subst (λ k. Soonest time_of xs k (sooner_at before.0 n (time_of found.0))) (let same : n + 1 ≡ suc n = omega arith in same) (soonest_more time_of xs n found.0 found.2 before.0 before.1))
+    more (inr past) before = absurd (let past : length xs ≤ n = past.0 in omega arith)

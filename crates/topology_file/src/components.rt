@@ -19,7 +19,9 @@ use toml::Value;
 /// The component that an entry spells after other components.
 fn component(alloc: Global, components: &[Component], entry: &Value) -> Result<Component, TopoBad>
     requires { length components.now ≤ 64 }
-    ensures { Gives (at_entry (Entry.Component (length components.now)) (component_fault (names_of components.now) (view entry.now))) (SpellsComponent (view entry.now)) result }
+    ensures { Gives (at_entry (Entry.Component (length components.now))
+        (component_fault (names_of components.now) (view entry.now)))
+        (SpellsComponent (view entry.now)) result }
 {
     if let Some(reason) = component_fault(components, entry) {
         return Err(TopoBad::At {
@@ -33,7 +35,8 @@ fn component(alloc: Global, components: &[Component], entry: &Value) -> Result<C
 /// The components that the entries spell.
 pub(crate) fn components(alloc: Global, entries: &[Value]) -> Result<Items<Component>, TopoBad>
     requires { length entries.now ≤ 64 }
-    ensures { Gives (components_refusal 0 [] (map view entries.now)) (AllZip SpellsComponent (map view entries.now)) result }
+    ensures { Gives (components_refusal 0 [] (map view entries.now))
+        (AllZip SpellsComponent (map view entries.now)) result }
 {
     let mut components = Items::new(alloc);
     for entry in entries {

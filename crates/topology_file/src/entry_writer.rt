@@ -38,7 +38,8 @@ impl EntryWriter {
     }
 
     fn put(&mut self, key: Key, value: Value) -> Result<(), NoMemory>
-        ensures { OnOk result (table_view self.new.table ≡ with_pair (table_view self.old.table) (key, view value)) }
+        ensures { OnOk result (table_view self.new.table
+            ≡ with_pair (table_view self.old.table) (key, view value)) }
     {
         let name = String::from_str(self.alloc, table::text(key))?;
         self.table.insert(name, value)?;
@@ -47,20 +48,23 @@ impl EntryWriter {
 
     pub(crate) fn number(&mut self, key: Key, value: u64) -> Result<(), NoMemory>
         requires { value < 2 ^ 63 }
-        ensures { OnOk result (table_view self.new.table ≡ with_pair (table_view self.old.table) (key, number value)) }
+        ensures { OnOk result (table_view self.new.table
+            ≡ with_pair (table_view self.old.table) (key, number value)) }
     {
         self.put(key, Value::Integer(value as i64))
     }
 
     pub(crate) fn text(&mut self, key: Key, text: &str) -> Result<(), NoMemory>
-        ensures { OnOk result (table_view self.new.table ≡ with_pair (table_view self.old.table) (key, string text.now)) }
+        ensures { OnOk result (table_view self.new.table
+            ≡ with_pair (table_view self.old.table) (key, string text.now)) }
     {
         let value = Value::string(self.alloc, text)?;
         self.put(key, value)
     }
 
     pub(crate) fn mac(&mut self, key: Key, mac: Mac) -> Result<(), NoMemory>
-        ensures { OnOk result (table_view self.new.table ≡ with_pair (table_view self.old.table) (key, address mac)) }
+        ensures { OnOk result (table_view self.new.table
+            ≡ with_pair (table_view self.old.table) (key, address mac)) }
     {
         let mut text = Items::new(self.alloc);
         mac_text(mac, &mut text)?;
@@ -68,7 +72,8 @@ impl EntryWriter {
     }
 
     pub(crate) fn entries(&mut self, key: Key, entries: Vec<Value>) -> Result<(), NoMemory>
-        ensures { OnOk result (table_view self.new.table ≡ with_pair (table_view self.old.table) (key, array (items_view entries.items))) }
+        ensures { OnOk result (table_view self.new.table
+            ≡ with_pair (table_view self.old.table) (key, array (items_view entries.items))) }
     {
         self.put(key, Value::Array(entries))
     }

@@ -25,7 +25,9 @@ fn are_joined(joined: &Joined, component: u32, count: u32) -> bool
 pub(crate) fn free_port(joined: &Joined, kinds: &[Items<PortKind>]) -> Option<u32>
     requires few_components { length kinds.now ≤ 64 }
     requires few_ports { All (λ (ports : List PortKind). length ports ≤ 32) kinds.now }
-    ensures { MatchOption result (ports_refusal joined.now.links 0 kinds.now ≡ None) (λ number. ports_refusal joined.now.links 0 kinds.now ≡ Some (TopoReason.PortFree, Entry.Component number)) }
+    ensures { MatchOption result (ports_refusal joined.now.links 0 kinds.now ≡ None)
+        (λ number. ports_refusal joined.now.links 0 kinds.now
+        ≡ Some (TopoReason.PortFree, Entry.Component number)) }
 {
     for (component, ports) in kinds.iter().enumerate() {
         if !are_joined(joined, component as u32, ports.len() as u32) {

@@ -87,7 +87,8 @@ fn joined_between(
     requires { HasSeats link }
     ensures link { IfOk result (λ found. found ≡ link) }
     ensures seats { IfOk result HasSeats }
-    ensures fault { MatchResult result (λ _. join_fault kinds.now joined.now.links link ≡ None) (λ reason. join_fault kinds.now joined.now.links link ≡ Some reason) }
+    ensures fault { MatchResult result (λ _. join_fault kinds.now joined.now.links link ≡ None)
+        (λ reason. join_fault kinds.now joined.now.links link ≡ Some reason) }
 {
     match join_fault(kinds, joined, &link) {
         Some(reason) => Err(reason),
@@ -105,7 +106,11 @@ pub(crate) fn link(
     requires { length components.now ≤ 64 }
     ensures link { IfOk result (λ link. link ≡ link_of (names_of components.now) (view entry.now)) }
     ensures seats { IfOk result HasSeats }
-    ensures fault { MatchResult result (λ _. link_fault (names_of components.now) kinds.now joined.now.links (view entry.now) ≡ None) (λ reason. link_fault (names_of components.now) kinds.now joined.now.links (view entry.now) ≡ Some reason) }
+    ensures fault { MatchResult result
+        (λ _. link_fault (names_of components.now) kinds.now joined.now.links (view entry.now)
+        ≡ None)
+        (λ reason. link_fault (names_of components.now) kinds.now joined.now.links (view entry.now)
+        ≡ Some reason) }
 {
     if !entry.is_table() {
         return Err(TopoReason::WrongType);

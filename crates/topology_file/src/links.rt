@@ -24,7 +24,9 @@ fn link(
 ) -> Result<Link, TopoBad>
     requires few_components { length components.now ≤ 64 }
     requires few_links { length joined.now.links ≤ 1024 }
-    ensures { Gives (at_entry (Entry.Link (length joined.now.links)) (link_fault (names_of components.now) kinds.now joined.now.links (view entry.now))) (IsLinkOf (names_of components.now) (view entry.now)) result }
+    ensures { Gives (at_entry (Entry.Link (length joined.now.links))
+        (link_fault (names_of components.now) kinds.now joined.now.links (view entry.now)))
+        (IsLinkOf (names_of components.now) (view entry.now)) result }
 {
     match link::link(components, kinds, joined, entry) {
         Ok(link) => Ok(link),
@@ -44,7 +46,8 @@ pub(crate) fn links(
 ) -> Result<Joined, TopoBad>
     requires few_components { length components.now ≤ 64 }
     requires few_links { length entries.now ≤ 1024 }
-    ensures { Gives (links_refusal (names_of components.now) kinds.now 0 [] (map view entries.now)) (AreLinksOf (names_of components.now) (map view entries.now)) result }
+    ensures { Gives (links_refusal (names_of components.now) kinds.now 0 [] (map view entries.now))
+        (AreLinksOf (names_of components.now) (map view entries.now)) result }
 {
     let mut joined = Joined::new(alloc)?;
     for entry in entries {

@@ -28,7 +28,8 @@ fn component_entries(alloc: Global, components: &[Component]) -> Result<Vec<Valu
 }
 
 fn link_entries(alloc: Global, t: &Topology) -> Result<Vec<Value>, NoMemory>
-    ensures { IfOk result (λ entries. map view entries.items ≡ map (full_link (names_of t.now.components)) t.now.wiring.links) }
+    ensures { IfOk result (λ entries. map view entries.items
+        ≡ map (full_link (names_of t.now.components)) t.now.wiring.links) }
 {
     let mut entries = Vec::new(alloc);
     let components = t.components.as_slice();

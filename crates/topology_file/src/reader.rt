@@ -43,7 +43,8 @@ fn parts(
     alloc: Global,
     document: &Value,
 ) -> Result<(Items<Component>, Items<Items<PortKind>>), TopoBad>
-    ensures { MatchResult result (λ parts. AreComponentsOf (view document.now) parts.0 parts.1) (Refuses (refusal (view document.now))) }
+    ensures { MatchResult result (λ parts. AreComponentsOf (view document.now) parts.0 parts.1)
+        (Refuses (refusal (view document.now))) }
 {
     if let Some(reason) = top_fault(document) {
         return Err(TopoBad::At {
@@ -75,7 +76,8 @@ fn topology(alloc: Global, document: &Value) -> Result<Topology, TopoBad>
 }
 
 fn document(alloc: Global, bytes: &[u8]) -> Result<Table, TopoBad>
-    ensures { MatchResult result (λ table. IsDocument bytes.now (table_view table)) (λ bad. Reads bytes.now (Err bad)) }
+    ensures { MatchResult result (λ table. IsDocument bytes.now (table_view table))
+        (λ bad. Reads bytes.now (Err bad)) }
 {
     match toml::table_from_slice(alloc, bytes) {
         Ok(table) => Ok(table),

@@ -16,7 +16,8 @@ use std::alloc::Global;
 use toml::Value;
 
 fn beacon(entry: &mut EntryWriter, config: &BeaconConfig) -> Result<(), NoMemory>
-    ensures { OnOk result (table_view entry.new.table ≡ with_pairs (table_view entry.old.table) (beacon_pairs config.now)) }
+    ensures { OnOk result (table_view entry.new.table
+        ≡ with_pairs (table_view entry.old.table) (beacon_pairs config.now)) }
 {
     entry.number(Key::First, config.first.picoseconds())?;
     entry.number(Key::Period, config.period.picoseconds())?;
@@ -27,20 +28,23 @@ fn beacon(entry: &mut EntryWriter, config: &BeaconConfig) -> Result<(), NoMemory
 }
 
 fn switch(entry: &mut EntryWriter, config: &SwitchConfig) -> Result<(), NoMemory>
-    ensures { OnOk result (table_view entry.new.table ≡ with_pairs (table_view entry.old.table) (switch_pairs config.now)) }
+    ensures { OnOk result (table_view entry.new.table
+        ≡ with_pairs (table_view entry.old.table) (switch_pairs config.now)) }
 {
     entry.number(Key::Ports, u64::from(config.ports))?;
     entry.number(Key::Age, config.age.picoseconds())
 }
 
 fn memory(entry: &mut EntryWriter, config: &MemoryConfig) -> Result<(), NoMemory>
-    ensures { OnOk result (table_view entry.new.table ≡ with_pairs (table_view entry.old.table) (memory_pairs config.now)) }
+    ensures { OnOk result (table_view entry.new.table
+        ≡ with_pairs (table_view entry.old.table) (memory_pairs config.now)) }
 {
     entry.number(Key::Size, u64::from(config.size))
 }
 
 fn host(entry: &mut EntryWriter, config: &HostConfig) -> Result<(), NoMemory>
-    ensures { OnOk result (table_view entry.new.table ≡ with_pairs (table_view entry.old.table) (host_pairs config.now)) }
+    ensures { OnOk result (table_view entry.new.table
+        ≡ with_pairs (table_view entry.old.table) (host_pairs config.now)) }
 {
     entry.number(Key::Ram, u64::from(config.ram))?;
     entry.number(Key::Cycle, config.cycle.picoseconds())?;
@@ -51,7 +55,8 @@ fn host(entry: &mut EntryWriter, config: &HostConfig) -> Result<(), NoMemory>
 }
 
 fn nic(entry: &mut EntryWriter, config: &NicConfig) -> Result<(), NoMemory>
-    ensures { OnOk result (table_view entry.new.table ≡ with_pairs (table_view entry.old.table) (nic_pairs config.now)) }
+    ensures { OnOk result (table_view entry.new.table
+        ≡ with_pairs (table_view entry.old.table) (nic_pairs config.now)) }
 {
     entry.mac(Key::Mac, config.mac)
 }
@@ -69,7 +74,8 @@ fn kind_text(config: &Config) -> &'static str
 }
 
 fn config(entry: &mut EntryWriter, config: &Config) -> Result<(), NoMemory>
-    ensures { OnOk result (table_view entry.new.table ≡ with_pairs (table_view entry.old.table) (config_pairs config.now)) }
+    ensures { OnOk result (table_view entry.new.table
+        ≡ with_pairs (table_view entry.old.table) (config_pairs config.now)) }
 {
     match config {
         Config::Beacon(config) => beacon(entry, config),
