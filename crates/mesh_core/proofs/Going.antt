@@ -4,14 +4,15 @@ use Rattle.std.proofs.Common.{◌≡◌, ℕ, zero, suc, ◌≤◌, ◌⊎◌, i
 use Rattle.std.specs.Prelude.{slice_set}
 use Rattle.std.proofs.lemmas.Option.{none-some, same_Some}
 use Rattle.cs_base.specs.declared.link.Link.{Link}
-use Rattle.cs_base.specs.Plan.{End, first_end, second_end}
+use Rattle.cs_base.specs.Plan.{End}
 use Rattle.sb_message.specs.declared.message.Msg.{Msg}
 use Rattle.device_api.specs.Behaviour.{Behaviour}
 use Rattle.device_api.specs.Channels.{Channel, channels}
 use Rattle.device_api.specs.World.{Network}
 use Rattle.global_model.specs.Step.{network}
-use Rattle.run_laws.proofs.Channels.{ComesIn, comes_in, port_there}
+use Rattle.run_laws.proofs.Channels.{port_there}
 use Rattle.run_steps.specs.declared.step.Step.TheVariants.{Event, Send, Poll}
+use Rattle.port_queue.specs.Plain.{Plain}
 use Rattle.sync_rule.specs.declared.next.Next.{Next}
 use Rattle.sync_rule.specs.declared.next.Next.TheVariants.{Sync, Take, Tick}
 use Rattle.sync_rule.specs.declared.runner.Runner.{Runner}
@@ -23,12 +24,14 @@ use Rattle.sync_rule.specs.Next.{IsEnabled}
 use Rattle.sync_rule.specs.Steps.{IsAfter, after_sync, after_take, after_tick}
 use Rattle.sync_laws.specs.Whole.{HaveEnded, IsStill, CanProcess, outbox_of}
 use Rattle.sync_laws.proofs.Changed.{get_mapped}
-use Rattle.sync_laws.proofs.Stuck.{not_stuck}
+use Rattle.sync_laws.proofs.Out.{GoesOut, goes_out}
+use Rattle.sync_laws.proofs.Stuck.{all_ended_or_goes}
 use Rattle.mesh_core.specs.Laws.{CanStep}
 use Rattle.mesh_core.specs.State.{State, way_of}
 use Rattle.mesh_core.specs.Steps.{IsLine, with_line, sent_by, received_by}
 use Rattle.mesh_core.specs.MeshOf.{HasQueue, IsMeshOf}
-use Rattle.mesh_core.proofs.Ends.{HasPort, IsStanding, mapped_at, sender, receiver, standing}
+use Rattle.mesh_core.specs.ToCome.{IsOver}
+use Rattle.mesh_core.proofs.Ends.{HasPort, IsStanding, IsChannelAt, channel_at, mapped_at, sender, receiver, standing}
 
 -- some element of a list has messages, or none has
 record HasSome {X : Type 0} (f : X → List Msg) (xs : List X) : Type 0 where
@@ -54,25 +57,6 @@ some_or_none {X} f (x ∷ xs) = at (f x) refl (some_or_none f xs)
     at (m ∷ more) e rest = inl (record { place = 0; x = x; there = refl; m = m; more = more; is = e })
     at [] e (inl some) = inl (record { place = suc some.place; x = some.x; there = some.there; m = some.m; more = some.more; is = some.is })
     at [] e (inr none) = inr (none_more f x xs e none)
-
--- beside each channel there is the one that leads back
-record IsBack (links : List Link) (ch : Channel) : Type 0 where
-  channel : Channel
-  number : ℕ
-  at_number : slice_get (channels links) number ≡ Some channel
-  comes_from : channel.from ≡ ch.to
-
-abbrev there_of : Link → Channel
-there_of link = record { from = first_end link; to = second_end link; latency = link.latency; interval = link.interval }
-
-abbrev back_of : Link → Channel
-back_of link = record { from = second_end link; to = first_end link; latency = link.latency; interval = link.interval }
-
-back : (links : List Link) (k : ℕ) (ch : Channel) → slice_get (channels links) k ≡ Some ch → IsBack links ch
-back [] k ch is = absurd (none-some ch is)
-back (link ∷ more) zero ch is = record { channel = back_of link; number = 1; at_number = refl; comes_from = ap (λ (x : Channel). x.to) (same_Some (there_of link) ch is) }
-back (link ∷ more) (suc zero) ch is = record { channel = there_of link; number = 0; at_number = refl; comes_from = ap (λ (x : Channel). x.to) (same_Some (back_of link) ch is) }
-back (link ∷ more) (suc (suc k)) ch is = (let there : IsBack more ch = back more k ch is in record { channel = there.channel; number = suc (suc there.number); at_number = there.at_number; comes_from = there.comes_from })
 
 -- what an event that may be processed leaves
 record HasFirst (l : List Msg) (t : ℕ) : Type 0 where
@@ -153,25 +137,37 @@ module _ {V : Type 0} (b : Behaviour V) (settled : V → ℕ → Type 0) (starts
     port_kind : slice_get (b.ports at_start.start) p ≡ Some heard.0.plan.kind
     port_kind = ap (λ kinds. slice_get kinds p) (sym at_start.stands.fitted.kinds) ∙ get_mapped (λ (i : In). i.plan.kind) r.incoming p heard.0 heard.1
 
-    into : ComesIn net of.wired (record { component = c; port = p })
-    into = comes_in net of.wired (record { component = c; port = p }) (port_there net c p at_start.start heard.0.plan.kind at_start.starts_so port_kind)
-
-    out : IsBack links into.channel
-    out = back links into.number into.channel into.at_number
+    out : GoesOut net of.wired (record { component = c; port = p })
+    out = goes_out net of.wired (record { component = c; port = p }) (port_there net c p at_start.start heard.0.plan.kind at_start.starts_so port_kind)
 
     none_waits : HaveNone outbox_on (channels links) → o.outbox ≡ []
-    none_waits none = ap outbox_at (sym o_at) ∙ ap (λ found. outbox_of found p) (sym r_at) ∙ ap (λ (e : End). outbox_of (slice_get mesh.runners e.component) e.port) (sym (out.comes_from ∙ into.comes_to)) ∙ none out.number out.channel out.at_number
+    none_waits none = ap outbox_at (sym o_at) ∙ ap (λ found. outbox_of found p) (sym r_at) ∙ ap (λ (e : End). outbox_of (slice_get mesh.runners e.component) e.port) (sym out.comes_from) ∙ none out.number out.channel out.at_number
 
   still : HaveNone (λ (ch : Channel). of.held ch.from) (channels links) → HaveNone outbox_on (channels links) → IsStill net of.held mesh.runners
   still empty none = record { all_sent = λ c r r_at p o o_at. none_waits c r r_at p o o_at none; all_received = empty }
 
-  pub can_step : (HaveEnded b mesh.runners → ⊥) → CanStep b mesh
-  can_step unended = at_queues (some_or_none (λ (ch : Channel). of.held ch.from) (channels links))
-    where
-      at_outboxes : HaveNone (λ (ch : Channel). of.held ch.from) (channels links) → HasSome outbox_on (channels links) ⊎ HaveNone outbox_on (channels links) → CanStep b mesh
-      at_outboxes empty (inl some) = sends some.place some.x some.there (empty some.place some.x some.there) some.m some.more some.is
-      at_outboxes empty (inr none) = goes (not_stuck net settled end of.positions of.received of.sent of.held mesh.runners of.whole of.wired (still empty none) unended)
+  over : HaveNone (λ (ch : Channel). of.held ch.from) (channels links) → HaveEnded b mesh.runners → IsOver b mesh
+  over empty all = record { ended = all; received = λ k way queue line. (let channel : IsChannelAt b settled starts links end mesh of k way = channel_at b settled starts links end mesh of k way line.leads in let own : HasQueue (map b.ports starts) channel.ch k (of.held channel.ch.from) mesh.queues = of.queues k channel.ch channel.at in ap (λ (q : Plain). q.held) (same_Some queue own.queue (sym line.between ∙ own.there)) ∙ own.holds ∙ empty k channel.ch channel.at) }
 
-      at_queues : HasSome (λ (ch : Channel). of.held ch.from) (channels links) ⊎ HaveNone (λ (ch : Channel). of.held ch.from) (channels links) → CanStep b mesh
-      at_queues (inl some) = polls some.place some.x some.there some.m some.more some.is
+  -- some step leads somewhere, or all is processed and received
+  pub step_or_over : CanStep b mesh ⊎ IsOver b mesh
+  step_or_over = at_queues (some_or_none (λ (ch : Channel). of.held ch.from) (channels links))
+    where
+      at_runners : HaveNone (λ (ch : Channel). of.held ch.from) (channels links) → HaveEnded b mesh.runners ⊎ CanProcess b mesh.runners → CanStep b mesh ⊎ IsOver b mesh
+      at_runners empty (inl all) = inr (over empty all)
+      at_runners empty (inr can) = inl (goes can)
+
+      at_outboxes : HaveNone (λ (ch : Channel). of.held ch.from) (channels links) → HasSome outbox_on (channels links) ⊎ HaveNone outbox_on (channels links) → CanStep b mesh ⊎ IsOver b mesh
+      at_outboxes empty (inl some) = inl (sends some.place some.x some.there (empty some.place some.x some.there) some.m some.more some.is)
+      at_outboxes empty (inr none) = at_runners empty (all_ended_or_goes net settled end of.positions of.received of.sent of.held mesh.runners of.whole of.wired (still empty none))
+
+      at_queues : HasSome (λ (ch : Channel). of.held ch.from) (channels links) ⊎ HaveNone (λ (ch : Channel). of.held ch.from) (channels links) → CanStep b mesh ⊎ IsOver b mesh
+      at_queues (inl some) = inl (polls some.place some.x some.there some.m some.more some.is)
       at_queues (inr empty) = at_outboxes empty (some_or_none outbox_on (channels links))
+
+  pub can_step : (HaveEnded b mesh.runners → ⊥) → CanStep b mesh
+  can_step unended = at step_or_over
+    where
+      at : CanStep b mesh ⊎ IsOver b mesh → CanStep b mesh
+      at (inl can) = can
+      at (inr done) = absurd (unended done.ended)

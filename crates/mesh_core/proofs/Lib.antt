@@ -11,3 +11,5 @@ mod Started
 mod Finished
 mod Outcomes
 mod Going
+mod Falling
+mod Numbered

@@ -1,5 +1,6 @@
 //! What holds of a mesh however it is stepped.
 ghost use Rattle.mesh_core.specs.Laws.{StartsStanding, StepsKeepIt, LogsBegin, ListsBegin, LogsAreWhole, ListsAreWhole, LeavesLogs, LeavesCounts, NeverStuck};
+ghost use Rattle.mesh_core.specs.ToCome.{StepsLowerIt, NoneIsToCome, IsOneNumber};
 
 use device_api::Device;
 
@@ -33,4 +34,12 @@ pub fn an_ended_mesh_is_the_global_run<V: Device>()
 /// Nothing is stuck: in each mesh of which not all components have ended some step is enabled.
 pub fn no_mesh_is_stuck<V: Device>()
     ensures { NeverStuck V.behaviour V.settled }
+{}
+
+/// How many steps of a mesh are to come is one number of it, whatever system it is taken for. Each step that is made lowers
+/// it by exactly one, in whatever order they come; and none is to come exactly where all is processed and received.
+pub fn so_many_steps_are_to_come<V: Device>()
+    ensures one_less { StepsLowerIt V.behaviour V.settled }
+    ensures none { NoneIsToCome V.behaviour V.settled }
+    ensures one_number { IsOneNumber V.behaviour V.settled }
 {}

@@ -213,9 +213,16 @@ module _ {V : Type 0} (net : Network V) (settled : V → ℕ → Type 0) (end : 
               by c r is (inr less) = all c r less is
               by c r is (inl same) = subst (HasEnded net.behaviour) (same_Some here.0 r (sym here.1 ∙ ap (slice_get runners) (sym same) ∙ is)) has
 
-  pub not_stuck : (HaveEnded net.behaviour runners → ⊥) → CanProcess net.behaviour runners
-  not_stuck unended = at (ended_or_goes (length runners) (le_refl (length runners)))
+  pub all_ended_or_goes : HaveEnded net.behaviour runners ⊎ CanProcess net.behaviour runners
+  all_ended_or_goes = at (ended_or_goes (length runners) (le_refl (length runners)))
     where
-      at : ((c : ℕ) (r : Runner V) → c < length runners → slice_get runners c ≡ Some r → HasEnded net.behaviour r) ⊎ CanProcess net.behaviour runners → CanProcess net.behaviour runners
+      at : ((c : ℕ) (r : Runner V) → c < length runners → slice_get runners c ≡ Some r → HasEnded net.behaviour r) ⊎ CanProcess net.behaviour runners → HaveEnded net.behaviour runners ⊎ CanProcess net.behaviour runners
+      at (inr can) = inr can
+      at (inl all) = inl (λ c r is. all c r (slice_get_within runners c r is) is)
+
+  pub not_stuck : (HaveEnded net.behaviour runners → ⊥) → CanProcess net.behaviour runners
+  not_stuck unended = at all_ended_or_goes
+    where
+      at : HaveEnded net.behaviour runners ⊎ CanProcess net.behaviour runners → CanProcess net.behaviour runners
       at (inr can) = can
-      at (inl all) = absurd (unended (λ c r is. all c r (slice_get_within runners c r is) is))
+      at (inl all) = absurd (unended all)
