@@ -7,7 +7,8 @@ use Rattle.device_api.specs.Beacon.{beacon, IsSettledBeacon}
 use Rattle.switch_sim.specs.Switch.{switch, IsSettledSwitch}
 use Rattle.mem_sim.specs.Memory.{memory, IsSettledMemory}
 use Rattle.host_sim.specs.Host.{host, IsSettledHost}
-use Rattle.nic_8254x.specs.Adapter.{adapter, IsSettledAdapter}
+use Rattle.nic_8254x.specs.Adapter.{adapter}
+use Rattle.nic_8254x.specs.Sound.{IsSettledAdapter}
 use Rattle.device_set.specs.declared.any_device.AnyDevice.{AnyDevice}
 use Rattle.device_set.specs.declared.any_device.AnyDevice.TheVariants.{Beacon, Switch, Memory, Host, Nic}
 

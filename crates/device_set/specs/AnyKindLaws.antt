@@ -12,7 +12,8 @@ use Rattle.host_sim.specs.Machine.{Machine}
 use Rattle.host_sim.specs.Host.{host, IsSettledHost}
 use Rattle.host_sim.specs.HostLaws.{host_lawful}
 use Rattle.nic_8254x.specs.State.{Adapter}
-use Rattle.nic_8254x.specs.Adapter.{adapter, IsSettledAdapter}
+use Rattle.nic_8254x.specs.Adapter.{adapter}
+use Rattle.nic_8254x.specs.Sound.{IsSettledAdapter}
 use Rattle.nic_8254x.specs.AdapterLaws.{adapter_lawful}
 use Rattle.device_set.specs.declared.any_device.AnyDevice.{AnyDevice}
 use Rattle.device_set.specs.declared.any_device.AnyDevice.TheVariants.{Beacon, Switch, Memory, Host, Nic}

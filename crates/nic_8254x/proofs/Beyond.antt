@@ -1,6 +1,6 @@
 -- There is no register from 2^32 on.
 use Rattle.std.proofs.Common.{◌≡◌, ℕ, ◌^◌, ◌≤◌, ◌<◌, Bool, true, false, refl, sym, ◌∙◌, arith}
-use Rattle.std.specs.Prelude.{◌==◌, nat_lt, nat_le, if◌then◌else◌, Option, None}
+use Rattle.std.specs.Prelude.{◌==◌, if◌then◌else◌, Option, None}
 use Rattle.std.proofs.lemmas.Bool.{ne_eqb, false≢true}
 use Rattle.nic_regs.specs.Table.{address_register, register_at}
 

@@ -1,6 +1,5 @@
 -- An adapter of the Intel 8254x family as a device: port 0 is its PCIe port, port 1 its Ethernet port.
-use Rattle.std.specs.Prelude.{ℕ, ◌≤◌, ◌<◌, Bool, true, false, List, [], ◌∷◌, length, Option, None}
-use Rattle.cs_base.specs.declared.port_kind.PortKind.{PortKind}
+use Rattle.std.specs.Prelude.{ℕ, Bool, true, false, [], ◌∷◌, length, None}
 use Rattle.cs_base.specs.declared.port_kind.PortKind.TheVariants.{Eth, PcieDev}
 use Rattle.sb_message.specs.declared.message.Body.{Body}
 use Rattle.sb_message.specs.declared.message.Body.TheVariants as body
@@ -49,7 +48,3 @@ takes s t port message =
 -- an adapter is never due by itself
 abbrev pub adapter : Behaviour Adapter
 adapter = record { ports = λ s. PcieDev ∷ Eth ∷ []; due = λ s. None; take = takes; tick = λ s t. rest s }
-
--- what is so of every adapter; it depends on no time
-abbrev pub IsSettledAdapter : Adapter → ℕ → Type 0
-IsSettledAdapter s x = Unit {0}

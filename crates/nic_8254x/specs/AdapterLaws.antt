@@ -1,9 +1,7 @@
 -- What an adapter keeps: each send is an event that its port may send.
-use Rattle.std.specs.Prelude.{ℕ, ◌≡◌, ◌≤◌, ◌<◌, ◌+◌, ◌^◌, ◌&&◌, ◌||◌, ◌==◌, not, nat_lt, nat_le, Bool, true, false, if◌then◌else◌, List, [], ◌∷◌, ◌++◌, length, take, replicate, codes, All, Option, Some, None, refl}
+use Rattle.std.specs.Prelude.{ℕ, ◌≡◌, ◌+◌, ◌&&◌, ◌||◌, ◌==◌, not, nat_lt, nat_le, Bool, true, false, if◌then◌else◌, List, [], ◌∷◌, ◌++◌, length, take, replicate, codes, All, refl}
 use Rattle.std.proofs.Common.{arith, sym, subst}
-use Rattle.std.proofs.lemmas.Option.{none-some}
 use Rattle.std.proofs.lemmas.List.Elements.{All-nil, All-cons, All-append}
-use Rattle.cs_base.specs.declared.port_kind.PortKind.{PortKind}
 use Rattle.cs_base.specs.declared.port_kind.PortKind.TheVariants.{Eth, PcieDev}
 use Rattle.pcie_proto.specs.declared.from_device.DevMsg.{DevMsg}
 use Rattle.pcie_proto.specs.declared.from_host.HostMsg.{HostMsg}
@@ -30,7 +28,9 @@ use Rattle.nic_8254x.specs.Receiving.{receives, rx_read_done, rx_write_done, pie
 use Rattle.nic_8254x.specs.Sending as sending
 use Rattle.nic_8254x.specs.Sending.{sends_on, tx_read_done, tx_write_done}
 use Rattle.nic_8254x.specs.Access.{answers, reads, writes}
-use Rattle.nic_8254x.specs.Adapter.{adapter, feels, hears, tells, tells_at, takes, IsSettledAdapter}
+use Rattle.nic_8254x.specs.Adapter.{adapter, feels, hears, tells, tells_at, takes}
+use Rattle.nic_8254x.specs.Sound.{IsSettledAdapter}
+use Rattle.nic_8254x.specs.AdapterKeeps.{takes_settles}
 
 -- what is sent has a property
 record Sends (P : ℕ × Body → Type 0) (r : Reaction Adapter) : Type 0 where
@@ -213,14 +213,14 @@ adapter_lawful = record {
     few_ports = λ x settled. omega arith;
     take_sends_events = λ t port arrived. (takes_sends (λ (sent : ℕ × Body). is_event sent.1 ≡ true) events s t port arrived).sent;
     tick_sends_events = λ t. All-nil (λ (sent : ℕ × Body). is_event sent.1 ≡ true);
-    settled_later = λ x y settled le. tt;
+    settled_later = λ x y settled le. record { ordered = settled.ordered; told = settled.told };
     take_orderly = λ t port arrived may due in_run settled. record {
       same_ports = refl;
-      settled_after = tt;
+      settled_after = takes_settles s t port arrived (t + 1) settled.ordered;
       sendable = (takes_sends (λ (sent : ℕ × Body). MaySend (PcieDev ∷ Eth ∷ []) sent.0 sent.1) sendable s t port arrived).sent;
     };
     due_after_take = λ t port arrived may due in_run settled. tt;
-    tick_orderly = λ t due in_run settled. record { same_ports = refl; settled_after = tt; sendable = All-nil (λ (sent : ℕ × Body). MaySend (PcieDev ∷ Eth ∷ []) sent.0 sent.1) };
+    tick_orderly = λ t due in_run settled. record { same_ports = refl; settled_after = record { ordered = settled.ordered; told = settled.told }; sendable = All-nil (λ (sent : ℕ × Body). MaySend (PcieDev ∷ Eth ∷ []) sent.0 sent.1) };
     due_after_tick = λ t due in_run settled. tt;
   };
 }

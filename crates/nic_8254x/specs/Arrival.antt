@@ -1,6 +1,5 @@
 -- A frame arrives: it is dropped, or it waits in the queue.
-use Rattle.std.specs.Prelude.{ℕ, Bool, not, nat_le, if◌then◌else◌, List, [], ◌∷◌, ◌++◌, length, take, codes}
-use Rattle.sb_message.specs.declared.message.Body.{Body}
+use Rattle.std.specs.Prelude.{ℕ, not, nat_le, if◌then◌else◌, List, [], ◌∷◌, ◌++◌, length, take, codes}
 use Rattle.device_api.specs.Behaviour.{Reaction}
 use Rattle.device_api.specs.World.{rest}
 use Rattle.nic_regs.specs.Registers.{accepts, raised, rx_on}

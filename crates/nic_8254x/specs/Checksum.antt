@@ -1,5 +1,5 @@
 -- The checksums of an adapter: the one that it inserts, and that of a packet which it received.
-use Rattle.std.specs.Prelude.{ℕ, ◌+◌, ◌-◌, ◌/◌, ◌%◌, ◌&&◌, nat_le, nat_lt, if◌then◌else◌, List, [], ◌∷◌, ◌++◌, length, take, drop}
+use Rattle.std.specs.Prelude.{ℕ, ◌+◌, ◌-◌, ◌/◌, ◌%◌, ◌&&◌, nat_le, nat_lt, if◌then◌else◌, List, [], ◌∷◌, length, drop}
 use Rattle.lane_kernels.specs.Checksum.{ones_sum_of}
 use Rattle.field_layout.specs.Layout.{overwritten}
 use Rattle.nic_rings.specs.declared.tx_desc.TxDesc.{TxDesc}

@@ -5,5 +5,8 @@ pub mod Receiving
 pub mod Sending
 pub mod Access
 pub mod Valid
+pub mod Sound
 pub mod Adapter
+pub mod AdapterKeeps
 pub mod AdapterLaws
+pub mod Parts

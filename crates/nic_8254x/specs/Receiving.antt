@@ -1,5 +1,5 @@
 -- The receive engine: the first frame of the queue goes to the buffers of the host, one descriptor after another.
-use Rattle.std.specs.Prelude.{ℕ, ◌+◌, ◌-◌, ◌%◌, ◌^◌, Bool, ◌&&◌, ◌==◌, not, min, nat_lt, if◌then◌else◌, List, [], ◌∷◌, ◌++◌, length, take, drop, codes, decimal}
+use Rattle.std.specs.Prelude.{ℕ, ◌+◌, ◌-◌, ◌%◌, ◌^◌, Bool, ◌&&◌, ◌==◌, min, nat_lt, if◌then◌else◌, List, [], ◌∷◌, ◌++◌, length, take, drop, codes, decimal}
 use Rattle.sb_message.specs.declared.message.Body.{Body}
 use Rattle.sb_message.specs.declared.message.Body.TheVariants as body
 use Rattle.pcie_proto.specs.declared.from_device.DevMsg.TheVariants as dev

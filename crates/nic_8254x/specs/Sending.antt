@@ -1,5 +1,5 @@
 -- The transmit engine: frames are read from the buffers of the host, one descriptor after another, and sent.
-use Rattle.std.specs.Prelude.{ℕ, ◌+◌, ◌-◌, ◌%◌, ◌^◌, Bool, ◌&&◌, ◌||◌, ◌==◌, not, min, nat_lt, nat_le, if◌then◌else◌, List, [], ◌∷◌, ◌++◌, length, replicate, codes, decimal, bit_or}
+use Rattle.std.specs.Prelude.{ℕ, ◌+◌, ◌-◌, ◌%◌, ◌^◌, Bool, ◌&&◌, ◌||◌, ◌==◌, not, nat_lt, if◌then◌else◌, List, [], ◌∷◌, ◌++◌, length, replicate, codes, decimal, bit_or}
 use Rattle.sb_message.specs.declared.message.Body.{Body}
 use Rattle.sb_message.specs.declared.message.Body.TheVariants as body
 use Rattle.pcie_proto.specs.declared.from_device.DevMsg.TheVariants as dev

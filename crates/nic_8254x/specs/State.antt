@@ -1,6 +1,5 @@
 -- What an adapter is: its registers, the frames that wait to be received, and where its two engines are.
 use Rattle.std.specs.Prelude.{ℕ, ◌-◌, ◌^◌, Bool, false, List, [], nat_lt}
-use Rattle.cs_base.specs.declared.configs.NicConfig.{NicConfig}
 use Rattle.nic_regs.specs.Registers as registers
 use Rattle.nic_regs.specs.Registers.{Registers}
 use Rattle.nic_8254x.specs.declared.state.RxStep.{RxStep}

@@ -7,7 +7,7 @@ use device_api::Effects;
 use eth_proto::EthMsg;
 
 /// Frames that can wait.
-const PLACES: usize = 64;
+pub(crate) const PLACES: usize = 64;
 
 /// ICR.RXO, receiver overrun.
 const RXO: u32 = 1 << 6;

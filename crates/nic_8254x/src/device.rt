@@ -76,7 +76,8 @@ impl Nic {
 }
 
 impl Device for Nic {
-    ghost use Rattle.nic_8254x.specs.Adapter.{adapter, IsSettledAdapter};
+    ghost use Rattle.nic_8254x.specs.Adapter.{adapter};
+    ghost use Rattle.nic_8254x.specs.Sound.{IsSettledAdapter};
     ghost use Rattle.nic_8254x.specs.AdapterLaws.{adapter_lawful};
 
     ghost behaviour = { adapter };

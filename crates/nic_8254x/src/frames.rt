@@ -1,7 +1,8 @@
-ghost use Rattle.std.specs.Prelude.{◌≡◌, ◌≤◌, ◌<◌, ◌++◌, ◌∷◌, [], length, drop, OnOk, OnErr};
+ghost use Rattle.std.specs.Prelude.{◌≡◌, ◌≤◌, ◌<◌, ◌++◌, ◌∷◌, [], length, drop, All, OnOk, OnErr, IfOk};
+ghost use Rattle.eth_proto.specs.Frame.{IsFrame};
 ghost use Rattle.nic_8254x.specs.Receiving.{first};
 
-use cs_base::{NoMemory, Queue};
+use cs_base::{Items, NoMemory, Octets, Queue};
 use eth_proto::EthMsg;
 use std::alloc::Global;
 use std::marker::Model;
@@ -27,6 +28,29 @@ impl Frames {
         Frames {
             queue: Queue::new(alloc),
         }
+    }
+
+    pub(crate) fn from_slice(alloc: Global, frames: &[Octets]) -> Result<Frames, NoMemory>
+        requires { All IsFrame frames.now }
+        ensures { IfOk result (λ made. made ≡ frames.now) }
+    {
+        let mut queue = Queue::new(alloc);
+        'frames: for frame in frames {
+            queue.push(EthMsg::new(frame.copy()?).unwrap())?;
+        }
+        Ok(Frames { queue })
+    }
+
+    pub(crate) fn into_items(self, alloc: Global) -> Result<Items<Octets>, NoMemory>
+        ensures items { IfOk result (λ items. items ≡ self) }
+        ensures frames { IfOk result (All IsFrame) }
+    {
+        let mut queue = self.queue;
+        let mut items = Items::new(alloc);
+        'frames: while let Some(frame) = queue.pop() {
+            items.push(Octets::from_slice(alloc, frame.frame())?)?;
+        }
+        Ok(items)
     }
 
     pub(crate) fn len(&self) -> usize

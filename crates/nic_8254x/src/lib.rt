@@ -8,9 +8,12 @@ mod checksum;
 mod device;
 mod frames;
 mod nic;
+mod parts;
 mod receiving;
 mod sending;
+mod standing;
 mod state;
 
 pub use nic::Nic;
+pub use parts::NicParts;
 pub use state::{RxStep, TxStep};

@@ -1,6 +1,8 @@
 ghost use Rattle.std.specs.Prelude.{◌≡◌, ◌++◌, ◌∷◌, IfOk, OnOk};
 ghost use Rattle.nic_8254x.specs.State.{started, has_id, dropped};
-ghost use Rattle.nic_8254x.specs.Adapter.{IsSettledAdapter, tells, tells_level};
+ghost use Rattle.nic_8254x.specs.Adapter.{tells, tells_level};
+ghost use Rattle.nic_8254x.specs.Sound.{IsSettledAdapter};
+ghost use Rattle.nic_8254x.specs.Parts.{IsOf};
 
 use crate::frames::Frames;
 use crate::state::{RxStep, TxStep};
@@ -57,8 +59,10 @@ impl Model for Nic {
 
 impl Nic {
     /// An adapter whose registers are as they start, and whose rings are empty.
+    #[tactic(auto, using(crate::specs::AdapterKeeps::started_settled))]
     pub fn start(alloc: Global, config: &NicConfig) -> Result<Nic, NoMemory>
         ensures state { IfOk result (λ nic. nic ≡ started config.now.mac) }
+        ensures of_config { IfOk result (IsOf config.now) }
         ensures at_start { IfOk result (λ nic. IsSettledAdapter nic 0) }
     {
         Ok(Nic {

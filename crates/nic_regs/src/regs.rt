@@ -247,6 +247,8 @@ impl Regs {
     pub fn into_parts(self) -> RegsParts
         ensures parts { result ≡ self.parts }
         ensures valid { IsValid result }
+        // `from_parts` makes the same registers of them.
+        ensures undone { resumed self.mac result ≡ self }
     {
         self.parts
     }
