@@ -183,6 +183,7 @@ impl<V: Device> Runner<V> {
     }
 
     /// Tells whether the device sent anything.
+    #[inline(always)]
     fn tick(&mut self, alloc: Global, at: Time) -> Result<bool, NoMemory>
         requires ready { IsReady V.behaviour V.settled self.old }
         requires enabled { IsEnabled V.behaviour self.old (Tick at) }
@@ -196,6 +197,7 @@ impl<V: Device> Runner<V> {
     }
 
     /// Logs what the device logged, and makes messages of what it sent.
+    #[inline(always)]
     fn carry_out(&mut self, at: Time) -> Result<(), NoMemory>
         requires there { HavePorts (length self.old.outgoing) self.old.done.sends }
         requires planned { ArePlanned self.old.outgoing }
