@@ -1,6 +1,6 @@
 -- The first of a time and of the first times of queues.
-use Rattle.std.specs.Prelude.{ℕ, ◌≡◌, ◌+◌, ◌≤◌, List, [], ◌∷◌}
-use Rattle.std.proofs.lemmas.Bool.{cases_eq}
+use Rattle.std.specs.Prelude.{ℕ, ◌≡◌, ◌+◌, ◌≤◌, ◌<◌, List, [], ◌∷◌}
+use Rattle.std.proofs.lemmas.Bool.{cases_eq, cases_lt}
 use Rattle.std.proofs.Common.{sym, arith, subst, ⊎_elim}
 use Rattle.sb_message.specs.declared.message.Msg.{Msg}
 use Rattle.moment_tree.specs.Dues.{sooner}
@@ -31,3 +31,11 @@ soonest_more late count queues next next' before is = subst (IsSoonest late (cou
   heads = λ p lt. ⊎_elim (λ e. subst (λ n. StartsFrom (sooner next (first_time (queues count))) (queues n)) (sym e) (sooner_starts next (queues count))) (λ ne. starts_before (sooner next (first_time (queues count))) next (queues p) (sooner_most next (queues count)) (before.heads p (omega arith))) (cases_eq p count);
   low = λ t le heads. sooner_low t next (queues count) (before.low t le (λ p lt. heads p (omega arith))) (heads count (omega arith));
 })
+
+-- queues that are empty change nothing
+pub soonest_over : (late count count' : ℕ) (queues : ℕ → List Msg) (next : ℕ) → IsSoonest late count queues next → count ≤ count' → ((p : ℕ) → count ≤ p → p < count' → queues p ≡ []) → IsSoonest late count' queues next
+soonest_over late count count' queues next before le empty = record {
+  at_most = before.at_most;
+  heads = λ p lt. ⊎_elim (λ below. before.heads p below) (λ above. subst (StartsFrom next) (sym (empty p (omega arith) lt)) tt) (cases_lt p count);
+  low = λ t le_t heads. before.low t le_t (λ p lt. heads p (omega arith));
+}

@@ -3,6 +3,7 @@ pub mod Nested
 pub mod AgendaLaws
 pub mod ReactionLaws
 pub mod TurnLaws
+pub mod PortMarks
 pub mod PostLaws
 pub mod Ways
 pub mod StepLaws

@@ -1,5 +1,5 @@
 -- A port's messages of a moment are taken one by one.
-use Rattle.std.specs.Prelude.{ℕ, suc, ◌≡◌, ◌==◌, ◌+◌, ◌≤◌, ◌<◌, ◌^◌, nat_le, nat_lt, option_map, Bool, true, false, if◌then◌else◌, ◌&&◌, List, [], ◌∷◌, ◌++◌, length, Option, Some, None, IsSome, IfSome, All, refl}
+use Rattle.std.specs.Prelude.{ℕ, zero, suc, ◌≡◌, ◌==◌, ◌+◌, ◌-◌, ◌≤◌, ◌<◌, ◌^◌, nat_le, nat_lt, option_map, Bool, true, false, if◌then◌else◌, ◌&&◌, List, [], ◌∷◌, ◌++◌, length, Option, Some, None, IsSome, IfSome, All, refl}
 use Rattle.std.proofs.lemmas.Bool.{false≢true}
 use Rattle.std.proofs.lemmas.Bool.Decides.{nat_tests}
 use Rattle.std.proofs.lemmas.List.Elements.{All-head, All-tail}
@@ -242,3 +242,24 @@ module _ {S : Type 0} {b : Behaviour S} {settled : S → ℕ → Type 0} {t c p 
         left = λ e. new e ∙ taken_more (t + 1) c p (port_of inboxes0) (port_of inboxes) (queue_at inboxes (end_at c p)) found takes.left e;
         taking = taking_from s0 takes.taking.same_ports taking;
       }
+
+  -- a port at which nothing waits has taken what it has
+  over_one : p < length (b.ports s0) → queue_at inboxes (end_at c p) ≡ [] → TakesArrivals b settled t c (p + 1) s0 inboxes0 s done inboxes
+  over_one lt empty =
+      let rises : Rises (t + 1) (queue_at inboxes (end_at c p)) = subst (Rises (t + 1)) (sym empty) tt in
+      takes_arrivals_more lt s done inboxes
+      (sym (followed_by-rest (so_far s done)) ∙ ap (λ (next : Reaction S). followed_by (so_far s done) (λ _. next)) (sym (take_queue-none b t p (t + 1) (queue_at inboxes (end_at c p)) s (omega arith) rises)))
+      (λ e. with_its_queue (port_of inboxes) (end_at c p) e (next_there lt) ∙ ap (λ queue. with_queue (port_of inboxes) (end_at c p) queue e) (sym (from_time-all (t + 1) (t + 1) (queue_at inboxes (end_at c p)) (omega arith) rises)))
+      next_taking
+
+-- so have ports in a row at which nothing waits
+pub takes_arrivals_over : {S : Type 0} {b : Behaviour S} {settled : S → ℕ → Type 0} {t c : ℕ} {s0 : S} {inboxes0 : List (List (List Msg))} {s : S} {done : SendsAndLines} {inboxes : List (List (List Msg))} (k p : ℕ) → TakesArrivals b settled t c p s0 inboxes0 s done inboxes → p + k ≤ length (b.ports s0) → ((q : ℕ) → p ≤ q → q < p + k → queue_at inboxes (end_at c q) ≡ []) → TakesArrivals b settled t c (p + k) s0 inboxes0 s done inboxes
+takes_arrivals_over {S} {b} {settled} {t} {c} {s0} {inboxes0} {s} {done} {inboxes} zero p takes le empty = subst (λ n. TakesArrivals b settled t c n s0 inboxes0 s done inboxes) (let same : p ≡ p + 0 = omega arith in same) takes
+takes_arrivals_over {S} {b} {settled} {t} {c} {s0} {inboxes0} {s} {done} {inboxes} (suc k) p takes le empty =
+    subst (λ n. TakesArrivals b settled t c n s0 inboxes0 s done inboxes) (let same : p + 1 + k ≡ p + suc k = omega arith in same)
+    (takes_arrivals_over k (p + 1) (over_one takes (omega arith) (empty p (omega arith) (omega arith))) (omega arith) (λ q above below. empty q (omega arith) (omega arith)))
+
+pub takes_arrivals_until : {S : Type 0} {b : Behaviour S} {settled : S → ℕ → Type 0} {t c : ℕ} {s0 : S} {inboxes0 : List (List (List Msg))} {s : S} {done : SendsAndLines} {inboxes : List (List (List Msg))} (p p' : ℕ) → TakesArrivals b settled t c p s0 inboxes0 s done inboxes → p ≤ p' → p' ≤ length (b.ports s0) → ((q : ℕ) → p ≤ q → q < p' → queue_at inboxes (end_at c q) ≡ []) → TakesArrivals b settled t c p' s0 inboxes0 s done inboxes
+takes_arrivals_until {S} {b} {settled} {t} {c} {s0} {inboxes0} {s} {done} {inboxes} p p' takes le within empty =
+    subst (λ n. TakesArrivals b settled t c n s0 inboxes0 s done inboxes) (let same : p + (p' - p) ≡ p' = omega arith in same)
+    (takes_arrivals_over (p' - p) p takes (omega arith) (λ q above below. empty q above (omega arith)))

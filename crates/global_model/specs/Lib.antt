@@ -4,6 +4,7 @@ pub mod Routes
 pub mod Tally
 pub mod Reactions
 pub mod Turn
+pub mod PortMarks
 pub mod Post
 pub mod Step
 pub mod UnderWay

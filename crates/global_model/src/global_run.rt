@@ -1,11 +1,12 @@
-ghost use Rattle.std.specs.Prelude.{◌≡◌, ◌≤◌, ◌<◌, [], length, map, All, IfOk, OnOk};
+ghost use Rattle.std.specs.Prelude.{◌≡◌, ◌≤◌, ◌<◌, ◌^◌, [], length, map, All, IfOk, OnOk};
 ghost use Rattle.global_model.specs.Runs.{HasLogsOf, HasCountsOf};
+ghost use Rattle.global_model.specs.RunOn.{GoesOn, MayRunOn, RunsOn, CountsOn};
 ghost use Rattle.global_model.specs.Tallied.{CountsUntil};
 ghost use Rattle.global_model.specs.UnderWay.{fresh, AreDuesNoted, MayGoOn, RunsUntil};
 
 use crate::inboxes::Inboxes;
 use crate::routes::Routes;
-use crate::run_on::run_on;
+use crate::run_on::{Stood, run_on};
 use crate::soonest::late;
 use crate::step::step;
 use crate::tallies::Tallies;
@@ -169,8 +170,10 @@ fn run_until<V: Device>(
         let next = step(
             alloc, &moment, components, routes, inboxes, agenda, tallies, done,
         )?;
-        let stood = run_on(
+        let behind = moment.component + 1;
+        let stood = go_on(
             alloc,
+            behind == turn,
             moment.component,
             moment.at,
             next,
@@ -184,9 +187,54 @@ fn run_until<V: Device>(
         )?;
         agenda.set(moment.component, Some(stood.next));
         time = stood.last.picoseconds();
-        turn = moment.component + 1;
+        turn = behind;
     }
     Ok(())
+}
+
+/// Where a component stands after its moment `from`. One that had the moment before too runs on: how far it may is not
+/// asked where moments go from one component to another.
+#[inline(always)]
+fn go_on<V: Device>(
+    alloc: alloc::Global,
+    had_the_moment_before: bool,
+    component: u32,
+    from: Time,
+    first: Time,
+    until: Time,
+    components: &mut Vec<Component<V>>,
+    routes: &Routes,
+    inboxes: &mut Inboxes,
+    agenda: &mut Agenda,
+    tallies: &mut Tallies,
+    done: &mut Effects,
+) -> Result<Stood, NoMemory>
+    requires stands { MayRunOn V.behaviour V.settled routes.now from until component first
+        components.old.items inboxes.old agenda.old }
+    requires goes_on { GoesOn V.behaviour component components.old.items inboxes.old first }
+    requires before { from < until }
+    requires nothing_sent { done.old.sends ≡ [] }
+    requires nothing_logged { done.old.lines ≡ [] }
+    ensures comes { IfOk result (RunsOn V.behaviour V.settled routes.now from until component first
+        components.old.items inboxes.old agenda.old components.new.items inboxes.new agenda.new) }
+    ensures counted { IfOk result (CountsOn V.behaviour V.settled routes.now from until component
+        first components.old.items inboxes.old agenda.old tallies.old tallies.new) }
+    ensures later { IfOk result (λ stood. from ≤ stood.last) }
+    ensures in_time { IfOk result (λ stood. stood.last < until) }
+    ensures short { IfOk result (λ stood. stood.next ≤ 10 ^ 15) }
+    ensures all_sent { OnOk result (done.new.sends ≡ []) }
+    ensures all_logged { OnOk result (done.new.lines ≡ []) }
+{
+    if had_the_moment_before {
+        return run_on(
+            alloc, component, from, first, until, components, routes, inboxes, agenda, tallies,
+            done,
+        );
+    }
+    Ok(Stood {
+        last: from,
+        next: first,
+    })
 }
 
 /// Components that have logged nothing yet.

@@ -1,4 +1,4 @@
-ghost use Rattle.std.specs.Prelude.{◌≡◌, ◌∷◌, ◌++◌, [], IfSome, IfNone, OnOk};
+ghost use Rattle.std.specs.Prelude.{◌≡◌, ◌↔◌, ◌∷◌, ◌++◌, [], IsTrue, IfSome, IfNone, OnOk};
 ghost use Rattle.global_model.specs.Inboxes.{StartsOff, first_time, message_at};
 
 use cs_base::no_memory::NoMemory;
@@ -46,6 +46,12 @@ impl Inbox {
             Some(message) => Some(message.at),
             None => None,
         }
+    }
+
+    pub fn is_empty(&self) -> bool
+        ensures { IsTrue result ↔ (self.now ≡ []) }
+    {
+        self.waiting.is_empty()
     }
 
     /// Takes the first message where it has this time.

@@ -1,9 +1,11 @@
-ghost use Rattle.std.specs.Prelude.{◌≡◌, ◌<◌, slice_get, [], Some, IsSome, IfSome, IfNone, IfOk, OnOk, ℕ};
+ghost use Rattle.std.specs.Prelude.{◌≡◌, ◌≤◌, ◌<◌, slice_get, [], Some, IsSome, IfSome, IfNone, IfOk, OnOk, ℕ};
 ghost use Rattle.cs_base.specs.Plan.{End};
 ghost use Rattle.global_model.specs.Inboxes.{port_of, end_at, first_time, AreEmpty, HasPut, HasGiven, PortStartsOff};
+ghost use Rattle.global_model.specs.PortMarks.{AreIdle};
 ghost use Rattle.global_model.specs.Turn.{queue_at};
 
 use crate::inbox::Inbox;
+use crate::marks::{marked, next_marked};
 use cs_base::items::Items;
 use cs_base::no_memory::NoMemory;
 use cs_base::port_kind::PortKind;
@@ -16,15 +18,21 @@ use std::marker::Model;
 #[derive(Drop)]
 pub struct Inboxes {
     components: Vec<Vec<Inbox>>,
+    /// A mask a component, with a 0 where nothing waits.
+    filled: Vec<u32>,
 }
 
 impl Model for Inboxes {
     ghost use Rattle.std.specs.Prelude.{map, List};
     ghost use Rattle.sb_message.specs.declared.message.Msg.{Msg as Message};
+    ghost use Rattle.global_model.specs.PortMarks.{AreMarked};
 
     ghost Value = { List (List (List Message)) };
 
     ghost view = { λ i. map (λ ports. ports.items) i.components.items };
+
+    ghost invariant = { λ i. AreMarked i.filled.items
+        (map (λ ports. ports.items) i.components.items) };
 }
 
 impl Inboxes {
@@ -36,7 +44,8 @@ impl Inboxes {
         for (_component, ports) in kinds.iter().enumerate() {
             components.push(empty_inboxes(alloc, ports.len())?)?;
         }
-        Ok(Inboxes { components })
+        let filled = Vec::from_elem(alloc, u32::MAX, components.len())?;
+        Ok(Inboxes { components, filled })
     }
 
     /// Puts a message at the end of a port's queue.
@@ -44,7 +53,9 @@ impl Inboxes {
         requires { IsSome (port_of self.old (end_at component port)) }
         ensures { OnOk result (HasPut (end_at component port) message self.old self.new) }
     {
-        self.components[component as usize][port as usize].push(message)
+        let place = component as usize;
+        self.filled[place] = marked(self.filled[place], port, true);
+        self.components[place][port as usize].push(message)
     }
 
     /// The time of the first message of a port's queue.
@@ -62,7 +73,27 @@ impl Inboxes {
         ensures none { IfNone result ((e : End) → port_of self.new e ≡ port_of self.old e) }
         ensures starts_off { IfNone result (PortStartsOff t (end_at component port) self.old) }
     {
-        self.components[component as usize][port as usize].take_at(t)
+        let place = component as usize;
+        let inbox = &mut self.components[place][port as usize];
+        let body = inbox.take_at(t);
+        let waits = !inbox.is_empty();
+        self.filled[place] = marked(self.filled[place], port, waits);
+        body
+    }
+
+    /// The first port of a component from one on, and below their number, at which something may wait; their number
+    /// where there is none. Ports at which nothing waits aren't looked at.
+    pub fn filled_from(&self, component: u32, from: u32, ports: u32) -> u32
+        requires { from ≤ ports }
+        ensures later { from ≤ result }
+        ensures within { result ≤ ports }
+        ensures idle { AreIdle self.now component from result }
+    {
+        let place = component as usize;
+        if place >= self.filled.len() {
+            return ports;
+        }
+        next_marked(self.filled[place], from).min(ports)
     }
 }
 

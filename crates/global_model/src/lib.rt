@@ -5,6 +5,7 @@
 mod global_run;
 mod inbox;
 mod inboxes;
+mod marks;
 mod post;
 mod routes;
 mod run_on;

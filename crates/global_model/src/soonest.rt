@@ -26,8 +26,10 @@ pub fn soonest(inboxes: &Inboxes, component: u32, ports: u32, late: Time) -> Tim
     ensures { IsSoonest late ports (inputs_of inboxes.now component) result }
 {
     let mut next = late;
-    for port in 0..ports {
+    let mut port = inboxes.filled_from(component, 0, ports);
+    'filled: while port < ports {
         next = sooner(next, inboxes.first_at(component, port));
+        port = inboxes.filled_from(component, port + 1, ports);
     }
     next
 }

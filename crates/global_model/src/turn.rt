@@ -61,8 +61,10 @@ fn take_arrivals<V: Device>(
         (so_far device.new done.new)) }
 {
     let ports = device.ports();
-    for port in 0..ports {
+    let mut port = inboxes.filled_from(moment.component, 0, ports);
+    'filled: while port < ports {
         take_from_port(alloc, device, moment, port, inboxes, done)?;
+        port = inboxes.filled_from(moment.component, port + 1, ports);
     }
     Ok(())
 }

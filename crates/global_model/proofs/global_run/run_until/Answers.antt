@@ -28,8 +28,8 @@ step-requires-clause-ready g c =
     let component = the_component under_way next in
     (component.0, component.1, ready under_way next component.0 component.1)
 
-pub run_on-requires-clause-stands : goal.run_on-requires-clause-stands
-run_on-requires-clause-stands g c =
+pub go_on-requires-clause-stands : goal.go_on-requires-clause-stands
+go_on-requires-clause-stands g c =
     let next : IsNext c.in-Some.moment c.moments.agenda = record { there = c.in-Some.ensures.there; first = c.in-Some.ensures.first } in
     let under_way = c.moments.invariant.stands c.requires.may_run.0 c.requires.may_run.1 c.requires.may_run.2 in
     let before : c.in-Some.moment.at < c.args.until = not_le c.args.until c.in-Some.moment.at c.if-le.ensures in
@@ -37,21 +37,21 @@ run_on-requires-clause-stands g c =
     let end : c.args.until ≤ c.requires.may_run.0.end = c.requires.may_run.2 in
     (c.requires.may_run.0, next_place under_way next component.0 component.1 (c.in_ok-next.ensures.stepped component.0 component.1) refl (omega (arith, before, end)), end)
 
-pub run_on-requires-clause-goes_on : goal.run_on-requires-clause-goes_on
-run_on-requires-clause-goes_on g c =
+pub go_on-requires-clause-goes_on : goal.go_on-requires-clause-goes_on
+go_on-requires-clause-goes_on g c =
     let next : IsNext c.in-Some.moment c.moments.agenda = record { there = c.in-Some.ensures.there; first = c.in-Some.ensures.first } in
     let under_way = c.moments.invariant.stands c.requires.may_run.0 c.requires.may_run.1 c.requires.may_run.2 in
     let component = the_component under_way next in
     steps_on component.1 (c.in_ok-next.ensures.stepped component.0 component.1)
 
-pub run_on-requires-clause-before : goal.run_on-requires-clause-before
-run_on-requires-clause-before g c = not_le c.args.until c.in-Some.moment.at c.if-le.ensures
+pub go_on-requires-clause-before : goal.go_on-requires-clause-before
+go_on-requires-clause-before g c = not_le c.args.until c.in-Some.moment.at c.if-le.ensures
 
 pub set-requires : goal.set-requires
 set-requires g c = (let short = c.in_ok-stood.ensures.short in omega (arith, short))
 
-pub overflow_add-turn : goal.overflow_add-turn
-overflow_add-turn g c =
+pub overflow_add-behind : goal.overflow_add-behind
+overflow_add-behind g c =
     let next : IsNext c.in-Some.moment c.moments.agenda = record { there = c.in-Some.ensures.there; first = c.in-Some.ensures.first } in
     let few : c.in-Some.moment.component < 64 = few_turns (c.moments.invariant.stands c.requires.may_run.0 c.requires.may_run.1 c.requires.may_run.2) next in
     omega (arith, few)
@@ -70,8 +70,8 @@ moments-preserved g c =
     let time = c.picoseconds-time-in-Some.ensures in
     let in_time = c.in_ok-stood.ensures.in_time in
     record {
-      stands = λ system start le. placed c.in-Some.moment.component c.run_on.new.agenda c.in_ok-stood.stood.next (c.in_ok-stood.ensures.comes system (next_place (c.moments.invariant.stands system start le) next component.0 component.1 (c.in_ok-next.ensures.stepped component.0 component.1) refl (omega (arith, before, le))) le) c.picoseconds-time-in-Some.result c.set.new.self time c.set.ensures;
-      tallied = λ system start le counted. (let before_step = c.moments.invariant.stands system start le in let stepped = c.in_ok-next.ensures.stepped component.0 component.1 in subst (λ u. AreTallied g.V.Device.behaviour system u (c.in-Some.moment.component + 1) c.run_on.new.tallies) (sym time) (c.in_ok-stood.ensures.counted system (next_place before_step next component.0 component.1 stepped refl (omega (arith, before, le))) le (tallied_next before_step c.moments.tallies (c.moments.invariant.tallied system start le counted) next component.0 component.1 stepped refl c.step.new.tallies (c.in_ok-next.ensures.counted component.0 component.1))));
+      stands = λ system start le. placed c.in-Some.moment.component c.go_on.new.agenda c.in_ok-stood.stood.next (c.in_ok-stood.ensures.comes system (next_place (c.moments.invariant.stands system start le) next component.0 component.1 (c.in_ok-next.ensures.stepped component.0 component.1) refl (omega (arith, before, le))) le) c.picoseconds-time-in-Some.result c.set.new.self time c.set.ensures;
+      tallied = λ system start le counted. (let before_step = c.moments.invariant.stands system start le in let stepped = c.in_ok-next.ensures.stepped component.0 component.1 in subst (λ u. AreTallied g.V.Device.behaviour system u (c.in-Some.moment.component + 1) c.go_on.new.tallies) (sym time) (c.in_ok-stood.ensures.counted system (next_place before_step next component.0 component.1 stepped refl (omega (arith, before, le))) le (tallied_next before_step c.moments.tallies (c.moments.invariant.tallied system start le counted) next component.0 component.1 stepped refl c.step.new.tallies (c.in_ok-next.ensures.counted component.0 component.1))));
       early = omega (arith, in_time, time);
       ended = λ e. absurd (omega (arith, in_time, time, e));
       nothing_sent = c.in_ok-stood.ensures.all_sent;

@@ -1,8 +1,9 @@
-use Rattle.std.proofs.Common.{arith, ◌+◌, ◌<◌, length, refl, map, subst, sym, ap, ◌∙◌, []}
+use Rattle.std.proofs.Common.{rules, ◌≡◌, arith, ◌+◌, ◌<◌, length, refl, map, subst, sym, ap, ◌∙◌, []}
 use Rattle.std.proofs.lemmas.Option.{slice_get_read}
-use Rattle.std.proofs.lemmas.List.{length_push}
+use Rattle.std.proofs.lemmas.List.{length_push, length-map}
 use Rattle.global_model.specs.Inboxes.{port_of}
 use Rattle.global_model.proofs.Nested.{rows_more, component_within}
+use Rattle.global_model.proofs.PortMarks.{all_marked}
 use Rattle.global_model.proofs.inboxes.Inboxes.new.Goals as goal
 
 pub loop-component-preserved : goal.loop-component-preserved
@@ -17,3 +18,8 @@ loop-component-preserved c =
 
 pub returns : goal.returns
 returns c = λ e there. c.loop-component.invariant.1 e (let within : e.component < length c.args.kinds.now = component_within c.args.kinds.now e there in let over = c.loop-component-test.false in omega arith) there
+
+pub invariant_of-result : goal.invariant_of-result
+invariant_of-result c =
+    let many : length c.loop-component.components.items ≡ c.len-2.result = search rules in
+    all_marked c.in_ok-filled.filled.items _ c.len-2.result (c.in_ok-filled.ensures.items_if_clones_equal (λ y same. same)) (length-map c.loop-component.components.items (λ v. v.items) ∙ many)
