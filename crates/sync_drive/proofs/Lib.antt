@@ -4,3 +4,4 @@ pub mod Causes
 pub mod Fit
 pub mod Moves
 pub mod Failures
+pub mod Plans

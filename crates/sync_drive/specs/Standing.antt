@@ -103,11 +103,11 @@ pub data IntoFailed {V R : Type 0} (kind : R → PortKind) (stands : R → List 
 pub record FailedFrom {V T R : Type 0} (b : Behaviour V) (settled : V → ℕ → Type 0)
     (tx_kind : T → PortKind) (tx_stands : T → List Msg → Type 0)
     (rx_kind : R → PortKind) (rx_stands : R → List Msg → Type 0)
-    (start : V) (txs : List T) (rxs : List R) (bad : RunBad) : Type 0 where
+    (start : V) (old : Runner V) (txs : List T) (rxs : List R) (bad : RunBad) : Type 0 where
   pub position : Position
   pub received : ℕ → List Msg
   pub sent : ℕ → List Msg
   pub last : Runner V
   pub runner : Stands b settled start position received sent last
   pub out : TxsStand tx_kind tx_stands (b.ports start) sent txs
-  pub into : IntoFailed rx_kind rx_stands (b.ports start) last received rxs bad
+  pub into : IntoFailed rx_kind rx_stands (b.ports start) old received rxs bad

@@ -2,7 +2,7 @@ ghost use Rattle.std.specs.Prelude.{◌≡◌, ◌≤◌, ◌^◌, ℕ, List, []
 ghost use Rattle.sync_rule.specs.declared.run_bad.RunBad.{RunBad};
 ghost use Rattle.sync_rule.specs.declared.port_plan.PortPlan.{PortPlan};
 ghost use Rattle.sync_rule.specs.declared.runner.Runner.{Runner};
-ghost use Rattle.sync_rule.specs.Ports.{IsPlanned};
+ghost use Rattle.sync_rule.specs.Ports.{In, Out, IsPlanned};
 ghost use Rattle.sync_rule.specs.Steps.{started};
 ghost use Rattle.sync_drive.specs.declared.turn.Turn.{Turn};
 ghost use Rattle.sync_drive.specs.Standing.{TxsStand, RxsStand, StandsFrom, FailedFrom};
@@ -39,7 +39,20 @@ pub fn a_failed_turn_leaves_its_ends_standing<V: Device, T: TxPort, R: RxPort>()
         (bad : RunBad)
         → StandsFrom V.behaviour V.settled T.kind T.stands R.kind R.stands start old txs rxs
         → Failed T.pushes T.refuses R.pops R.empties old txs rxs new txs' rxs' bad
-        → FailedFrom V.behaviour V.settled T.kind T.stands R.kind R.stands start txs' rxs' bad }
+        → FailedFrom V.behaviour V.settled T.kind T.stands R.kind R.stands start old txs' rxs' bad }
+{}
+
+/// A turn changes neither the end of the run nor the plan of any port.
+pub fn a_turn_keeps_its_plans<V: Device, T: TxPort, R: RxPort>()
+    ensures end { (old new : Runner V) (txs txs' : List T) (rxs rxs' : List R) (turn : Turn)
+        → Turned V.behaviour T.pushes T.refuses R.pops R.empties old txs rxs new txs' rxs' turn
+        → new.end ≡ old.end }
+    ensures outgoing { (old new : Runner V) (txs txs' : List T) (rxs rxs' : List R) (turn : Turn)
+        → Turned V.behaviour T.pushes T.refuses R.pops R.empties old txs rxs new txs' rxs' turn
+        → map (λ (o : Out). o.plan) new.outgoing ≡ map (λ (o : Out). o.plan) old.outgoing }
+    ensures incoming { (old new : Runner V) (txs txs' : List T) (rxs rxs' : List R) (turn : Turn)
+        → Turned V.behaviour T.pushes T.refuses R.pops R.empties old txs rxs new txs' rxs' turn
+        → map (λ (i : In). i.plan) new.incoming ≡ map (λ (i : In). i.plan) old.incoming }
 {}
 
 /// A turn tries each end of a channel once at most, whether it fails or not.

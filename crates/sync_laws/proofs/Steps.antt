@@ -59,7 +59,7 @@ tick_keeps b old t = record { same_end = refl; outs = plans_posted t (b.tick old
 take_keeps : {V : Type 0} (b : Behaviour V) (old : Runner V) (port : ℕ) (m : Msg) → KeepsPlans old (after_take b old port m)
 take_keeps b old port m = record { same_end = refl; outs = plans_posted m.at (b.take old.device m.at port m.body).sends old.outgoing; ins = map_changed (λ (i : In). i.plan) port taken old.incoming (λ i. refl) }
 
-event_keeps : {V : Type 0} (b : Behaviour V) (old new : Runner V) (next : Next) → IsAfter b old next new → KeepsPlans old new
+pub event_keeps : {V : Type 0} (b : Behaviour V) (old new : Runner V) (next : Next) → IsAfter b old next new → KeepsPlans old new
 event_keeps b old new (Sync port u) is = subst (KeepsPlans old) (sym is) (sync_keeps old port u)
 event_keeps b old new (Tick t) is = subst (KeepsPlans old) (sym is) (tick_keeps b old t)
 event_keeps b old new (Take port t) take = subst (KeepsPlans old) (sym take.is) (take_keeps b old port take.m)
