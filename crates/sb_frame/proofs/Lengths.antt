@@ -35,7 +35,7 @@ mem_payload (mem_msg.Write id addr bytes) ty fields payload s = let e = ap lengt
 mem_payload (mem_msg.ReadDone id bytes) ty fields payload s = let e = ap length s.access.whole in let r = s.access.in_range in omega arith
 mem_payload (mem_msg.WriteDone id) ty fields payload s = let e = ap length s.access.whole in omega arith
 
-payload_bound : (b : Body) (ty : ℕ) (fields payload : List ℕ) → SpellsBody b ty fields payload → length payload ≤ 2048
+pub payload_bound : (b : Body) (ty : ℕ) (fields payload : List ℕ) → SpellsBody b ty fields payload → length payload ≤ 2048
 payload_bound body.Sync ty fields payload s = let e = ap length s.no_payload in omega arith
 payload_bound (body.Intro i) ty fields payload s = let e = ap length s.no_payload in omega arith
 payload_bound (body.Dev m) ty fields payload s = dev_payload m ty fields payload s

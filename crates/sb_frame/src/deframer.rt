@@ -96,6 +96,13 @@ impl Deframer {
         self.walk.take()
     }
 
+    /// The stream's first fault, if it has been met.
+    pub fn fault(&self) -> Option<FrameBad>
+        ensures { result ≡ self.now.fault }
+    {
+        self.fault
+    }
+
     // Reads on into the piece.
     fn take_in(&mut self, piece: &[u8]) -> Result<(), FrameBad>
         requires no_fault { self.old.fault ≡ None }
