@@ -1,3 +1,6 @@
+ghost use Rattle.std.specs.Prelude.{◌≡◌, ◌+◌, ◌^◌, ◌<◌, Some, OnOk};
+ghost use Rattle.device_api.specs.Gives.{Gives};
+
 use cs_base::{NoMemory, PortKind, Time};
 use device_api::{Beacon, Device, Effects};
 use host_sim::Host;
@@ -45,14 +48,12 @@ impl Device for AnyDevice {
         }
     }
 
+    /// A host is asked first, since it is due at each of its instructions.
     #[inline(always)]
     fn due(&self) -> Option<Time> {
         match self {
-            AnyDevice::Beacon(beacon) => beacon.due(),
-            AnyDevice::Switch(switch) => switch.due(),
-            AnyDevice::Memory(memory) => memory.due(),
             AnyDevice::Host(host) => host.due(),
-            AnyDevice::Nic(nic) => nic.due(),
+            device => device.due_by_kind(),
         }
     }
 
@@ -73,8 +74,41 @@ impl Device for AnyDevice {
         }
     }
 
+    /// A host is looked for first, since it ticks at each of its instructions.
     #[inline(always)]
     fn tick(&mut self, alloc: Global, t: Time, out: &mut Effects) -> Result<(), NoMemory> {
+        match self {
+            AnyDevice::Host(host) => host.tick(alloc, t, out),
+            device => device.tick_by_kind(alloc, t, out),
+        }
+    }
+
+    ghost lawful = { any_lawful };
+}
+
+impl AnyDevice {
+    ghost use Rattle.device_set.specs.AnyKind.{any_due, any_tick, IsSettledDevice};
+
+    #[inline(never)]
+    fn due_by_kind(&self) -> Option<Time>
+        ensures { result ≡ any_due self.now }
+    {
+        match self {
+            AnyDevice::Beacon(beacon) => beacon.due(),
+            AnyDevice::Switch(switch) => switch.due(),
+            AnyDevice::Memory(memory) => memory.due(),
+            AnyDevice::Host(host) => host.due(),
+            AnyDevice::Nic(nic) => nic.due(),
+        }
+    }
+
+    #[inline(never)]
+    fn tick_by_kind(&mut self, alloc: Global, t: Time, out: &mut Effects) -> Result<(), NoMemory>
+        requires due_now { any_due self.old ≡ Some t }
+        requires in_run { t < 10 ^ 15 }
+        requires settled_then { IsSettledDevice self.old (t + 1) }
+        ensures { OnOk result (Gives (any_tick self.old t) self.new out.old out.new) }
+    {
         match self {
             AnyDevice::Beacon(beacon) => beacon.tick(alloc, t, out),
             AnyDevice::Switch(switch) => switch.tick(alloc, t, out),
@@ -83,6 +117,4 @@ impl Device for AnyDevice {
             AnyDevice::Nic(nic) => nic.tick(alloc, t, out),
         }
     }
-
-    ghost lawful = { any_lawful };
 }
