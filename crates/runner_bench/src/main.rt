@@ -71,3 +71,6 @@ fn main(rt: HostRuntime) -> io::Result<()> {
     }
     Ok(())
 }
+
+#[cfg(test)]
+mod tests;
