@@ -178,10 +178,13 @@ C
   "$cc" -O3 -march=x86-64-v2 -o "$folder/sum" "$folder/sum.c" && "$folder/sum"
 fi
 
-# 10^7 null messages through a slot queue of 64 slots and through the ring of rtrb, on one thread and between two.
+# 10^7 null messages through a slot queue of 64 slots and through the ring of rtrb, on one thread and between two; and the
+# same queue in plain C++, with each order of its stores and each layout of its words.
 queues=$(dirname "$cosim")/crates/queue_bench
 [ -x "$queues/out/queue_bench" ] || (cd "$queues" && rt run > "$folder/queues.log" 2>&1)
 "$queues/out/queue_bench" 10000000
+g++ -std=c++17 -O2 -pthread -o "$folder/slots" "$(dirname "${BASH_SOURCE[0]}")/peer/slots.cpp"
+"$folder/slots" 10000000
 
 # 10^7 ticks of a device alone: one event at a time, events in a row, and by the global run.
 runners=$(dirname "$cosim")/crates/runner_bench
