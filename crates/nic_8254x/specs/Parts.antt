@@ -54,3 +54,7 @@ pub record IsValidFor (config : NicConfig) (parts : NicParts) : Type 0 where
 -- the adapter has the configuration's address
 abbrev pub IsOf : NicConfig → Adapter → Type 0
 IsOf config s = s.regs.mac ≡ config.mac
+
+-- with the configuration that the adapter was started with, the parts make it again
+abbrev pub MakeAgain : NicParts → Adapter → Type 0
+MakeAgain parts s = (config : NicConfig) → IsOf config s → resumed config parts ≡ s

@@ -13,6 +13,8 @@ mod receiving;
 mod sending;
 mod standing;
 mod state;
+#[cfg(test)]
+mod tests;
 
 pub use nic::Nic;
 pub use parts::NicParts;

@@ -2,7 +2,7 @@ ghost use Rattle.std.specs.Prelude.{ℕ, ◌≡◌, ◌≤◌, ◌^◌, ◌↔�
 ghost use Rattle.cs_base.specs.declared.configs.NicConfig.{NicConfig};
 ghost use Rattle.device_api.specs.declared.parts_bad.PartsBad.TheVariants.{Invalid};
 ghost use Rattle.nic_8254x.specs.Sound.{IsSettledAdapter};
-ghost use Rattle.nic_8254x.specs.Parts.{resumed, nic_parts, IsValidFor, IsOf};
+ghost use Rattle.nic_8254x.specs.Parts.{resumed, nic_parts, IsValidFor, IsOf, MakeAgain};
 
 use crate::frames::Frames;
 use crate::nic::Nic;
@@ -44,7 +44,7 @@ impl Nic {
         ensures value { IfOk result (λ parts. parts ≡ nic_parts self) }
         // With the configuration that the adapter was started with, its parts are valid, and make the same adapter again.
         ensures valid { IfOk result (λ parts. (config : NicConfig) → IsValidFor config parts) }
-        ensures again { IfOk result (λ parts. (config : NicConfig) → IsOf config self → resumed config parts ≡ self) }
+        ensures again { IfOk result (λ parts. MakeAgain parts self) }
     {
         let Nic {
             regs,

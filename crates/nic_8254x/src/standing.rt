@@ -1,6 +1,6 @@
 //! Whether an adapter may stand as it does: what is tested of parts before they are an adapter again.
 
-ghost use Rattle.std.specs.Prelude.{◌≡◌, ◌↔◌, ◌<◌, ◌≤◌, ◌⊎◌, length, All, IsTrue};
+ghost use Rattle.std.specs.Prelude.{◌≡◌, ◌↔◌, All, IsTrue};
 ghost use Rattle.eth_proto.specs.Frame.{IsFrame};
 ghost use Rattle.nic_regs.specs.Registers.{Registers};
 ghost use Rattle.nic_8254x.specs.Receiving.{first};
@@ -75,10 +75,11 @@ fn is_tx_step(step: TxStep) -> bool
     }
 }
 
-/// Whether the engines fit the first frame that waits.
-fn are_engines(frame: &[u8], from: u32, rx: RxStep, tx: TxStep) -> bool
-    ensures { IsTrue result ↔ (((from ≡ 0) ⊎ (from < length frame.now)) × IsRxStep frame.now from rx × IsTxStep tx) }
+/// Whether the engines fit the frames that wait.
+fn are_engines(frames: &[Octets], from: u32, rx: RxStep, tx: TxStep) -> bool
+    ensures { IsTrue result ↔ IsAdapter frames.now from rx tx }
 {
+    let frame = first(frames);
     (from == 0 || (from as usize) < frame.len()) && is_rx_step(frame, from, rx) && is_tx_step(tx)
 }
 
@@ -124,7 +125,7 @@ impl NicParts {
         let frames = self.queue.as_slice();
         frames.len() <= PLACES
             && are_frames(frames)
-            && are_engines(first(frames), self.from, self.rx, self.tx)
+            && are_engines(frames, self.from, self.rx, self.tx)
             && are_ids(self.next_id, rx_id(self.rx), tx_id(self.tx))
             && self.told == regs.line()
     }
