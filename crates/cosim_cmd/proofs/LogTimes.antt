@@ -2,10 +2,11 @@
 use Rattle.std.proofs.Common.{ℕ, ◌≡◌, ◌<◌, ◌≤◌, zero, suc, List, Option, Some, None, length, refl, subst, ◌∙◌, arith}
 use Rattle.std.specs.Prelude.{All, slice_get}
 use Rattle.std.proofs.lemmas.List.Elements.{All-append, All-map, All-set}
-use Rattle.std.proofs.lemmas.List.{length-set, length-map}
+use Rattle.std.proofs.lemmas.List.{length-map}
 use Rattle.std.proofs.lemmas.Option.{slice_get_within, get_or_from_slice_get}
 use Rattle.device_api.specs.declared.logs.Line.{Line}
 use Rattle.device_api.specs.World.{World, Run, Network, start_run, after, logged_at, react, arrivals_for, turn_of, slot, global_until, logs_of}
+use Rattle.run_laws.proofs.RunCounts.{run_count}
 use Rattle.log_join.specs.Before.{IsBefore, AreBefore}
 
 -- each run's lines are before a time
@@ -40,20 +41,6 @@ module _ {S : Type 0} (net : Network S) where
   pub logs_of-before : (t : ℕ) → AreBefore t (logs_of (global_until net t))
   logs_of-before t = All-map (IsBefore t) (λ (run : Run S). run.log) (global_until net t).runs (global_until-before t)
 
-  turn-runs : (t c : ℕ) (w : World S) (found : Option (Run S)) → length (turn_of net t c w found).runs ≡ length w.runs
-  turn-runs t c w None = refl
-  turn-runs t c w (Some run) = length-set w.runs c (after t run (react net.behaviour t (arrivals_for net t c w) run.state))
-
-  slot-runs : (t c : ℕ) (w : World S) → length (slot net t c w).runs ≡ length w.runs
-  unfolding slot
-  slot-runs t zero w = refl
-  slot-runs t (suc c) w = turn-runs t c (slot net t c w) (slice_get (slot net t c w).runs c) ∙ slot-runs t c w
-
-  global_until-runs : (t : ℕ) → length (global_until net t).runs ≡ length net.starts
-  unfolding global_until
-  global_until-runs zero = length-map net.starts start_run
-  global_until-runs (suc t) = slot-runs t (length net.starts) (global_until net t) ∙ global_until-runs t
-
   -- there is one log for each component
   pub length-logs_of : (t : ℕ) → length (logs_of (global_until net t)) ≡ length net.starts
-  length-logs_of t = length-map (global_until net t).runs (λ (run : Run S). run.log) ∙ global_until-runs t
+  length-logs_of t = length-map (global_until net t).runs (λ (run : Run S). run.log) ∙ run_count net t

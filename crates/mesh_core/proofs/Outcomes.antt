@@ -1,15 +1,16 @@
 -- What an ended mesh leaves is what the global run leaves.
-use Rattle.std.proofs.Common.{◌≡◌, ℕ, zero, suc, List, [], ◌∷◌, length, map, Option, Some, None, slice_get, refl, sym, ap, ap₂, ◌∙◌, arith}
-use Rattle.std.proofs.lemmas.List.{length-map, length-set}
+use Rattle.std.proofs.Common.{◌≡◌, ℕ, suc, List, [], ◌∷◌, length, map, Some, slice_get, refl, sym, ap, ap₂, ◌∙◌, arith}
+use Rattle.std.proofs.lemmas.List.{length-map}
 use Rattle.cs_base.specs.declared.link.Link.{Link}
 use Rattle.device_api.specs.declared.logs.Line.{Line}
 use Rattle.device_api.specs.Behaviour.{Behaviour, IsLawful}
 use Rattle.device_api.specs.Channels.{Channel, channels}
 use Rattle.device_api.specs.Counts.{count_of}
 use Rattle.device_api.specs.GlobalCounts.{counts_of, messages_of, messages_by}
-use Rattle.device_api.specs.World.{Run, World, Network, start_run, after, react, arrivals_for, turn_of, slot, global_until, log_in, logs_of}
+use Rattle.device_api.specs.World.{Run, World, Network, global_until, log_in, logs_of}
 use Rattle.global_model.specs.Step.{network}
 use Rattle.run_laws.specs.Wired.{SendsEvents}
+use Rattle.run_laws.proofs.RunCounts.{run_count}
 use Rattle.sync_rule.specs.declared.runner.Runner.{Runner}
 use Rattle.sync_rule.specs.Ports.{Out}
 use Rattle.sync_laws.specs.Whole.{HaveEnded}
@@ -38,22 +39,6 @@ same_maps f g (x ∷ xs) agree = ap₂ (λ z l. z ∷ l) (agree 0 x refl) (same_
 map_twice : {X Y Z : Type 0} (f : Y → Z) (g : X → Y) (xs : List X) → map f (map g xs) ≡ map (λ x. f (g x)) xs
 map_twice f g [] = refl
 map_twice f g (x ∷ xs) = ap (λ l. f (g x) ∷ l) (map_twice f g xs)
-
--- the global run has one run for each component
-module _ {S : Type 0} (net : Network S) where
-  turn_runs : (t c : ℕ) (w : World S) (found : Option (Run S)) → length (turn_of net t c w found).runs ≡ length w.runs
-  turn_runs t c w None = refl
-  turn_runs t c w (Some run) = length-set w.runs c (after t run (react net.behaviour t (arrivals_for net t c w) run.state))
-
-  slot_runs : (t c : ℕ) (w : World S) → length (slot net t c w).runs ≡ length w.runs
-  unfolding slot
-  slot_runs t zero w = refl
-  slot_runs t (suc c) w = turn_runs t c (slot net t c w) (slice_get (slot net t c w).runs c) ∙ slot_runs t c w
-
-  run_count : (t : ℕ) → length (global_until net t).runs ≡ length net.starts
-  unfolding global_until
-  run_count zero = length-map net.starts start_run
-  run_count (suc t) = slot_runs t (length net.starts) (global_until net t) ∙ run_count t
 
 module _ {V : Type 0} (b : Behaviour V) (settled : V → ℕ → Type 0) (lawful : IsLawful b settled) (starts : List V) (links : List Link) (end : ℕ) (mesh : State V) (of : IsMeshOf b settled starts links end mesh) (ended : HaveEnded b mesh.runners) where
   abbrev net : Network V
