@@ -32,8 +32,9 @@ impl Core {
         self.act(did)
     }
 
-    // A step, told without what an access asks for: where it is inlined, what was done is a branch, and no value.
-    #[inline(always)]
+    // A step, told without what an access asks for: an answer of one word, which the caller has in a register. It is one
+    // function, into which the compiler inlines all of `execute`; inlined itself, it would leave that a call.
+    #[inline(never)]
     fn run(&mut self, word: Option<u32>) -> Did
         requires { self.old.pending ≡ Pending.Nothing }
         ensures state { self.new ≡ (stepped self.old word).state }
