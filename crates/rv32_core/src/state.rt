@@ -154,17 +154,19 @@ impl Core {
     }
 
     /// Whether an interrupt that is enabled in `mie` is pending, whatever `mstatus` says.
+    #[inline(always)]
     pub fn wakes(&self) -> bool
         ensures { result ≡ wakes self.now }
     {
-        self.external_enabled && self.external
+        self.external_enabled & self.external
     }
 
     /// Whether the core takes an interrupt before the next instruction.
+    #[inline(always)]
     pub fn takes_interrupt(&self) -> bool
         ensures { result ≡ takes_interrupt self.now }
     {
-        self.interrupts_enabled && self.wakes()
+        self.interrupts_enabled & self.wakes()
     }
 
     /// The core's parts, which are valid.

@@ -32,7 +32,8 @@ impl Core {
         self.act(did)
     }
 
-    // A step, told without what an access asks for: where it is inlined, what was done is a branch, and no value.
+    // A step, told without what an access asks for: where it is inlined, what was done is a branch and no value. What it
+    // calls in every arm is only hinted to be inlined: with `always` there too the compiler takes it for too large.
     #[inline(always)]
     fn run(&mut self, word: Option<u32>) -> Did
         requires { self.old.pending ≡ Pending.Nothing }
@@ -107,21 +108,21 @@ impl Core {
         self.trap(0x8000_000B);
     }
 
-    #[inline(always)]
+    #[inline]
     fn x(&self, number: u32) -> u32
         ensures { result ≡ register self.now number }
     {
         self.registers[(number & 0x1F) as usize]
     }
 
-    #[inline(always)]
+    #[inline]
     fn address(&self, rs1: u32, imm: i32) -> u32
         ensures { result ≡ add_immediate (register self.now rs1) imm }
     {
         alu::add_immediate(self.x(rs1), imm)
     }
 
-    #[inline(always)]
+    #[inline]
     fn is_less(&self, rs1: u32, rs2: u32) -> bool
         ensures { result ≡ int_lt (integer (register self.now rs1)) (integer (register self.now rs2)) }
     {
@@ -147,7 +148,7 @@ impl Core {
     }
 
     #[tactic(auto, unfolding(crate::specs::Execution::passed))]
-    #[inline(always)]
+    #[inline]
     fn pass(&mut self) -> Did
         ensures state { self.new ≡ passed self.old }
         ensures act { result ≡ Did.Done }
@@ -159,7 +160,7 @@ impl Core {
     }
 
     #[tactic(auto, unfolding(crate::specs::Execution::results))]
-    #[inline(always)]
+    #[inline]
     fn result(&mut self, rd: u32, value: u32) -> Did
         ensures state { self.new ≡ (results self.old rd value).state }
         ensures act { result ≡ did (results self.old rd value).act }
@@ -172,7 +173,7 @@ impl Core {
     }
 
     #[tactic(auto, unfolding(crate::specs::Execution::jumps))]
-    #[inline(always)]
+    #[inline]
     fn jump(&mut self, rd: u32, target: u32) -> Did
         ensures state { self.new ≡ (jumps self.old rd target).state }
         ensures act { result ≡ did (jumps self.old rd target).act }
@@ -187,7 +188,7 @@ impl Core {
     }
 
     #[tactic(auto, unfolding(crate::specs::Execution::branches))]
-    #[inline(always)]
+    #[inline]
     fn branch(&mut self, imm: i32, taken: bool) -> Did
         ensures state { self.new ≡ (branches self.old imm taken).state }
         ensures act { result ≡ did (branches self.old imm taken).act }
@@ -200,7 +201,7 @@ impl Core {
     }
 
     #[tactic(auto, unfolding(crate::specs::Execution::loads))]
-    #[inline(always)]
+    #[inline]
     fn load(&mut self, rd: u32, rs1: u32, imm: i32, size: u32, signed: bool) -> Did
         requires size { IsSize size }
         requires word { size ≡ 4 → signed ≡ false }
@@ -223,7 +224,7 @@ impl Core {
     }
 
     #[tactic(auto, unfolding(crate::specs::Execution::stores))]
-    #[inline(always)]
+    #[inline]
     fn store(&mut self, rs1: u32, rs2: u32, imm: i32, size: u32) -> Did
         requires { IsSize size }
         ensures state { let address = add_immediate (register self.old rs1) imm in
@@ -457,7 +458,7 @@ impl Core {
 }
 
 // The target of JALR, whose lowest bit is cleared.
-#[inline(always)]
+#[inline]
 fn even(target: u32) -> u32
     ensures { result ≡ target / 2 * 2 }
 {
@@ -465,7 +466,7 @@ fn even(target: u32) -> u32
 }
 
 // A write to a register; one to register 0 changes nothing.
-#[inline(always)]
+#[inline]
 fn write(registers: &mut [u32; 32], rd: u32, value: u32)
     ensures written { registers.new ≡ registers_with registers.old rd value }
     ensures zero_register { slice_index registers.old 0 ≡ 0 → slice_index registers.new 0 ≡ 0 }
