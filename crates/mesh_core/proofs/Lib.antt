@@ -2,14 +2,14 @@ mod Ends
 mod Stepped
 mod Read
 mod Ended
-mod Built
+pub mod Built
 mod Kept
-mod Begun
+pub mod Begun
 mod Keeping
-mod Runners
-mod Started
+pub mod Runners
+pub mod Started
 mod Finished
-mod Outcomes
+pub mod Outcomes
 mod Going
 mod Falling
 mod Numbered

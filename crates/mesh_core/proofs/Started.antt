@@ -21,15 +21,15 @@ use Rattle.mesh_core.specs.MeshOf.{IsMeshOf}
 use Rattle.mesh_core.proofs.Ends.{some_mapped}
 use Rattle.mesh_core.proofs.Runners.{numbered_at, length-numbered, kinds_kept, all_planned, plan_is, plan_back, all_in}
 
-record IsMadeOf {X Y : Type 0} (f : ℕ → X → Y) (i : ℕ) (xs : List X) (y : Y) : Type 0 where
-  x : X
-  there : slice_get xs i ≡ Some x
-  is : y ≡ f i x
+pub record IsMadeOf {X Y : Type 0} (f : ℕ → X → Y) (i : ℕ) (xs : List X) (y : Y) : Type 0 where
+  pub x : X
+  pub there : slice_get xs i ≡ Some x
+  pub is : y ≡ f i x
 
-made_of : {X Y : Type 0} (f : ℕ → X → Y) (i : ℕ) (xs : List X) (y : Y) → slice_get (numbered f 0 xs) i ≡ Some y → IsMadeOf f i xs y
+pub made_of : {X Y : Type 0} (f : ℕ → X → Y) (i : ℕ) (xs : List X) (y : Y) → slice_get (numbered f 0 xs) i ≡ Some y → IsMadeOf f i xs y
 made_of {X} f i xs y is = (let from : (x : X) × (slice_get xs i ≡ Some x) × (f (i + 0) x ≡ y) = some_mapped (f (i + 0)) (slice_get xs i) y (sym (numbered_at f 0 i xs) ∙ is) in record { x = from.0; there = from.1; is = sym from.2 ∙ ap (λ n. f n from.0) (let same : i + 0 ≡ i = omega arith in same) })
 
-kind_there : (kind : Option PortKind) → is_some kind ≡ true → kind ≡ Some (kind_or kind)
+pub kind_there : (kind : Option PortKind) → is_some kind ≡ true → kind ≡ Some (kind_or kind)
 kind_there None some = absurd (false≢true some)
 kind_there (Some kind) some = refl
 

@@ -149,7 +149,7 @@ pub fn ways_of(alloc: Global, links: &[Link]) -> Result<Vec<Way>, NoMemory>
 }
 
 /// The kind of a port that is there.
-fn kind_of(kinds: &[Items<PortKind>], component: u32, port: u32) -> PortKind
+pub fn kind_of(kinds: &[Items<PortKind>], component: u32, port: u32) -> PortKind
     ensures { result ≡ kind_or (kind_at kinds.now (record { component = component; port = port })) }
 {
     match kind_at(kinds, component, port) {

@@ -1,10 +1,10 @@
 //! All components of a system on local clocks, and the queues between them, as one state that goes step by step.
 #![tactic(auto)]
 
-mod build;
+pub mod build;
 pub mod laws;
 pub mod mesh;
-mod outcome;
+pub mod outcome;
 pub mod way;
 
 pub use mesh::Mesh;

@@ -17,7 +17,7 @@ use Rattle.worker_rounds.specs.Rounds.Went.{went_well, went_wrong}
 use Rattle.worker_rounds.specs.Crew.{AreSound, AllWorked, order_of, sooner_of, NoneKept, FirstKept}
 use Rattle.worker_rounds.proofs.Passing.{none_went, each_on, fit_on}
 
-some_none : {X : Type 0} (x : X) (o : Option X) → o ≡ Some x → o ≡ None → ⊥
+pub some_none : {X : Type 0} (x : X) (o : Option X) → o ≡ Some x → o ≡ None → ⊥
 some_none x o is none = (let both : Some x ≡ None = sym is ∙ none in absurd cc)
 
 module _ {M : Type 0} (does : M → M → Type 0) (fails : M → MeshBad → M → Type 0) (turns still : M → ℕ) where

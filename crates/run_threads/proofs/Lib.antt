@@ -1,0 +1,5 @@
+pub mod Built
+pub mod Kept
+pub mod Faults
+pub mod Crews
+pub mod Final
