@@ -44,6 +44,26 @@ fn what_registers_store(rt: HostRuntime) {
 }
 
 #[test]
+fn sizes_of_receive_buffers(rt: HostRuntime) {
+    // RCTL with BSIZE 0 to 3, without BSEX and with it
+    let rows = [
+        (0x0000_0000, 2048),
+        (0x0001_0000, 1024),
+        (0x0002_0000, 512),
+        (0x0003_0000, 256),
+        (0x0200_0000, 2048),
+        (0x0201_0000, 16384),
+        (0x0202_0000, 8192),
+        (0x0203_0000, 4096),
+    ];
+    for (rctl, size) in rows {
+        let mut regs = Regs::new(OWN);
+        let _stored = regs.write(0x0100, rctl);
+        assert_eq!(rt; regs.buffer_size(), size);
+    }
+}
+
+#[test]
 fn causes_and_their_mask(rt: HostRuntime) {
     let mut regs = Regs::new(OWN);
     regs.raise(0xffff_ffff);

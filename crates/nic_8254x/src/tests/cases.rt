@@ -194,6 +194,38 @@ const RESET_OF_SENDING: [(Given, &str); 11] = [
     (Zeros(4, 14), "frame 0000000000000000000000000000, tx 14"),
 ];
 
+/// A reset in each of the other states of both engines; each completion is late.
+const RESETS: [(Given, &str); 28] = [
+    (Write(0x3818, 1), "done, read 0 0x1000 16"),
+    (Bytes(0, &TEN), "read 1 0x2000 10"),
+    (Write(0, 0x0400_0000), "done"),
+    (Zeros(1, 10), ""),
+    (Write(0, 0x40), "done"),
+    (Write(0x400, 2), "done"),
+    (Write(0x3808, 0x80), "done"),
+    (Write(0x3818, 1), "done, read 2 0x0 16"),
+    (Bytes(2, &REPORT), "write 3 0xc 01"),
+    (Write(0, 0x0400_0000), "done"),
+    (Done(3), ""),
+    (Read(0xc0, 4), "is 00000000"),
+    (Write(0, 0x40), "done"),
+    (Write(0x100, 2), "done"),
+    (Write(0x2808, 0x80), "done"),
+    (Write(0x2818, 1), "done"),
+    (Frames(OWN, 60, 1), "read 4 0x0 16"),
+    (Write(0, 0x0400_0000), "done"),
+    (Bytes(4, &BUFFER), ""),
+    (Write(0, 0x40), "done"),
+    (Write(0x100, 2), "done"),
+    (Write(0x2808, 0x80), "done"),
+    (Write(0x2818, 1), "done"),
+    (Frames(OWN, 60, 1), "read 5 0x0 16"),
+    (Bytes(5, &BUFFER), "write 6 0x4000 60"),
+    (Done(6), "write 7 0x0 00400000000000003c000a0203000000"),
+    (Write(0, 0x0400_0000), "done"),
+    (Done(7), ""),
+];
+
 /// The second descriptor of a ring that begins 16 bytes before 2^64; sending is still off.
 const FAR: [(u64, u32); 6] = [
     (0, 0x40),
@@ -297,7 +329,11 @@ const FULL: [(Given, &str); 4] = [
 
 const OFF: [(Given, &str); 1] = [(Frames(OWN, 60, 1), "drop off")];
 
-pub(crate) const CASES: [Case; 14] = [
+pub(crate) const CASES: [Case; 15] = [
+    Case {
+        registers: &SENDS,
+        steps: &RESETS,
+    },
     Case {
         registers: &[],
         steps: &ACCESSES,
