@@ -3,7 +3,8 @@
 # `cosim asm` on long sources; and `cosim model` beside the plain C++ event loop of peer/events.cpp, whose output it is
 # compared with. Each line is the fastest of three runs of the whole program. A ratio above 1: cosim is faster.
 set -eu
-cosim=$(cd "$(dirname "${BASH_SOURCE[0]}")/.." && pwd)/cosim
+top=$(cd "$(dirname "${BASH_SOURCE[0]}")/.." && pwd)
+cosim=$top/crates/cosim_prog/out/cosim_prog
 folder=$(mktemp -d)
 trap 'rm -rf "$folder"' EXIT
 
@@ -76,6 +77,11 @@ fastest() { # what is counted, how many, the command's words
     'BEGIN { printf "%8d %-26s %8.3f s %10.0f a second\n", many, counted, best / 1e9, many * 1e9 / best }'
 }
 
+# This proves and builds the program where it is missing or older than its sources. What is measured is the program
+# itself, since the script takes some hundredths of a second to look at all sources.
+{ stations 1; cable; } > "$folder/cable.toml"
+"$top/cosim" check "$folder/cable.toml" > "$folder/out"
+
 # A frame sent and a frame taken are an event each.
 for events in 1000 10000 100000 1000000; do
   { stations $((events / 4)); cable; } > "$folder/cable.toml"
@@ -131,7 +137,7 @@ beside() { # what is compared, how many events, the peer's words
     'BEGIN { printf "%-14s C++ %6.1f ns, cosim %6.1f ns an event: ratio %.2f\n", what, peer / events, own / events, peer / own }'
 }
 
-g++ -std=c++17 -O2 -o "$folder/events" "$(dirname "${BASH_SOURCE[0]}")/peer/events.cpp"
+g++ -std=c++17 -O2 -o "$folder/events" "$top/docs/peer/events.cpp"
 for stations in 2 8 32 64; do
   frames=$((500000 / stations))
   latency=$([ "$stations" = 2 ] && echo 500 || echo 100000)
@@ -143,7 +149,7 @@ beside "a switch" 1200000 switch 200000 2 500
 
 # The kernels by lanes, over 64 MiB in calls of each length: their own program, and a plain loop in C that the compiler
 # makes vectors of, where there is one.
-bench=$(dirname "$cosim")/crates/lane_bench
+bench=$top/crates/lane_bench
 [ -x "$bench/out/lane_bench" ] || (cd "$bench" && rt run > "$folder/build.log" 2>&1)
 "$bench/out/lane_bench" 64 1514 1048576
 if cc=$(command -v clang || command -v gcc); then
@@ -180,13 +186,13 @@ fi
 
 # 10^7 null messages through a slot queue of 64 slots and through the ring of rtrb, on one thread and between two; and the
 # same queue in plain C++, with each order of its stores and each layout of its words.
-queues=$(dirname "$cosim")/crates/queue_bench
+queues=$top/crates/queue_bench
 [ -x "$queues/out/queue_bench" ] || (cd "$queues" && rt run > "$folder/queues.log" 2>&1)
 "$queues/out/queue_bench" 10000000
-g++ -std=c++17 -O2 -pthread -o "$folder/slots" "$(dirname "${BASH_SOURCE[0]}")/peer/slots.cpp"
+g++ -std=c++17 -O2 -pthread -o "$folder/slots" "$top/docs/peer/slots.cpp"
 "$folder/slots" 10000000
 
 # 10^7 ticks of a device alone: one event at a time, events in a row, and by the global run.
-runners=$(dirname "$cosim")/crates/runner_bench
+runners=$top/crates/runner_bench
 [ -x "$runners/out/runner_bench" ] || (cd "$runners" && rt run > "$folder/runners.log" 2>&1)
 "$runners/out/runner_bench" 10000000

@@ -56,9 +56,9 @@ pub(crate) fn write(entry: Entry<'_>, text: &mut Octets) -> Result<(), NoMemory>
     ensures { OnOk result (text.new ≡ text.old ++ entry_text entry.entry) }
 {
     decimal(entry.line.at.picoseconds(), text)?;
-    text.append(b" ")?;
+    text.push(b' ')?;
     text.append(entry.name.as_slice())?;
-    text.append(b" ")?;
+    text.push(b' ')?;
     text.append(entry.line.text.as_slice())?;
-    text.append(b"\n")
+    text.push(b'\n')
 }
