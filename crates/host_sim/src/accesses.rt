@@ -52,8 +52,10 @@ impl Host {
     #[inline(always)]
     fn finish(&mut self, alloc: Global, act: Act, out: &mut Effects) -> Result<(), NoMemory>
         ensures state { OnOk result (self.new ≡ (finishes self.old act).state) }
-        ensures sends { OnOk result (out.new.sends ≡ out.old.sends ++ (finishes self.old act).sends) }
-        ensures lines { OnOk result (out.new.lines ≡ out.old.lines ++ (finishes self.old act).lines) }
+        ensures sends { OnOk result (out.new.sends
+            ≡ out.old.sends ++ (finishes self.old act).sends) }
+        ensures lines { OnOk result (out.new.lines
+            ≡ out.old.lines ++ (finishes self.old act).lines) }
     {
         match act {
             Act::Trapped(cause) => self.trap(alloc, cause, out),
@@ -71,8 +73,10 @@ impl Host {
     ) -> Result<(), NoMemory>
         requires { IsLoad self.old.core.pending }
         ensures state { OnOk result (self.new ≡ (after_load self.old value).state) }
-        ensures sends { OnOk result (out.new.sends ≡ out.old.sends ++ (after_load self.old value).sends) }
-        ensures lines { OnOk result (out.new.lines ≡ out.old.lines ++ (after_load self.old value).lines) }
+        ensures sends { OnOk result (out.new.sends
+            ≡ out.old.sends ++ (after_load self.old value).sends) }
+        ensures lines { OnOk result (out.new.lines
+            ≡ out.old.lines ++ (after_load self.old value).lines) }
     {
         let act = self.core.finish_load(value);
         self.finish(alloc, act, out)
@@ -88,8 +92,10 @@ impl Host {
     ) -> Result<(), NoMemory>
         requires { IsStore self.old.core.pending }
         ensures state { OnOk result (self.new ≡ (after_store self.old stored).state) }
-        ensures sends { OnOk result (out.new.sends ≡ out.old.sends ++ (after_store self.old stored).sends) }
-        ensures lines { OnOk result (out.new.lines ≡ out.old.lines ++ (after_store self.old stored).lines) }
+        ensures sends { OnOk result (out.new.sends
+            ≡ out.old.sends ++ (after_store self.old stored).sends) }
+        ensures lines { OnOk result (out.new.lines
+            ≡ out.old.lines ++ (after_store self.old stored).lines) }
     {
         let act = self.core.finish_store(stored);
         self.finish(alloc, act, out)
@@ -100,8 +106,10 @@ impl Host {
     fn ask(&mut self, port: u32, message: Body, out: &mut Effects) -> Result<(), NoMemory>
         requires { self.old.next_id < 2 ^ 64 - 1 }
         ensures state { OnOk result (self.new ≡ (asks self.old port message).state) }
-        ensures sends { OnOk result (out.new.sends ≡ out.old.sends ++ (asks self.old port message).sends) }
-        ensures lines { OnOk result (out.new.lines ≡ out.old.lines ++ (asks self.old port message).lines) }
+        ensures sends { OnOk result (out.new.sends
+            ≡ out.old.sends ++ (asks self.old port message).sends) }
+        ensures lines { OnOk result (out.new.lines
+            ≡ out.old.lines ++ (asks self.old port message).lines) }
     {
         let id = self.next_id;
         out.send(port, message)?;
@@ -120,8 +128,10 @@ impl Host {
     ) -> Result<(), NoMemory>
         requires { IsLoad self.old.core.pending }
         ensures state { OnOk result (self.new ≡ (asks_load self.old port message).state) }
-        ensures sends { OnOk result (out.new.sends ≡ out.old.sends ++ (asks_load self.old port message).sends) }
-        ensures lines { OnOk result (out.new.lines ≡ out.old.lines ++ (asks_load self.old port message).lines) }
+        ensures sends { OnOk result (out.new.sends
+            ≡ out.old.sends ++ (asks_load self.old port message).sends) }
+        ensures lines { OnOk result (out.new.lines
+            ≡ out.old.lines ++ (asks_load self.old port message).lines) }
     {
         if self.next_id == u64::MAX {
             return self.finish_load(alloc, None, out);
@@ -139,8 +149,10 @@ impl Host {
     ) -> Result<(), NoMemory>
         requires { IsStore self.old.core.pending }
         ensures state { OnOk result (self.new ≡ (asks_store self.old port message).state) }
-        ensures sends { OnOk result (out.new.sends ≡ out.old.sends ++ (asks_store self.old port message).sends) }
-        ensures lines { OnOk result (out.new.lines ≡ out.old.lines ++ (asks_store self.old port message).lines) }
+        ensures sends { OnOk result (out.new.sends
+            ≡ out.old.sends ++ (asks_store self.old port message).sends) }
+        ensures lines { OnOk result (out.new.lines
+            ≡ out.old.lines ++ (asks_store self.old port message).lines) }
     {
         if self.next_id == u64::MAX {
             return self.finish_store(alloc, false, out);
@@ -170,8 +182,10 @@ impl Host {
         requires load { IsLoad self.old.core.pending }
         requires size { IsSize size }
         ensures state { OnOk result (self.new ≡ (loads self.old addr size).state) }
-        ensures sends { OnOk result (out.new.sends ≡ out.old.sends ++ (loads self.old addr size).sends) }
-        ensures lines { OnOk result (out.new.lines ≡ out.old.lines ++ (loads self.old addr size).lines) }
+        ensures sends { OnOk result (out.new.sends
+            ≡ out.old.sends ++ (loads self.old addr size).sends) }
+        ensures lines { OnOk result (out.new.lines
+            ≡ out.old.lines ++ (loads self.old addr size).lines) }
     {
         match self.map.place(addr) {
             Place::Ram(offset) => {
@@ -195,8 +209,10 @@ impl Host {
         requires load { IsLoad self.old.core.pending }
         requires size { IsSize size }
         ensures state { OnOk result (self.new ≡ (loads_at self.old size place).state) }
-        ensures sends { OnOk result (out.new.sends ≡ out.old.sends ++ (loads_at self.old size place).sends) }
-        ensures lines { OnOk result (out.new.lines ≡ out.old.lines ++ (loads_at self.old size place).lines) }
+        ensures sends { OnOk result (out.new.sends
+            ≡ out.old.sends ++ (loads_at self.old size place).sends) }
+        ensures lines { OnOk result (out.new.lines
+            ≡ out.old.lines ++ (loads_at self.old size place).lines) }
     {
         let id = self.next_id;
         match place {
@@ -243,8 +259,10 @@ impl Host {
         requires store { IsStore self.old.core.pending }
         requires size { IsSize size }
         ensures state { OnOk result (self.new ≡ (stores_ram self.old offset size value).state) }
-        ensures sends { OnOk result (out.new.sends ≡ out.old.sends ++ (stores_ram self.old offset size value).sends) }
-        ensures lines { OnOk result (out.new.lines ≡ out.old.lines ++ (stores_ram self.old offset size value).lines) }
+        ensures sends { OnOk result (out.new.sends
+            ≡ out.old.sends ++ (stores_ram self.old offset size value).sends) }
+        ensures lines { OnOk result (out.new.lines
+            ≡ out.old.lines ++ (stores_ram self.old offset size value).lines) }
     {
         let stored = self.ram.store(u64::from(offset), size, value);
         self.finish_store(alloc, stored, out)
@@ -268,8 +286,10 @@ impl Host {
     ) -> Result<(), NoMemory>
         requires { IsStore self.old.core.pending }
         ensures state { OnOk result (self.new ≡ (stores_console self.old size value).state) }
-        ensures sends { OnOk result (out.new.sends ≡ out.old.sends ++ (stores_console self.old size value).sends) }
-        ensures lines { OnOk result (out.new.lines ≡ out.old.lines ++ (stores_console self.old size value).lines) }
+        ensures sends { OnOk result (out.new.sends
+            ≡ out.old.sends ++ (stores_console self.old size value).sends) }
+        ensures lines { OnOk result (out.new.lines
+            ≡ out.old.lines ++ (stores_console self.old size value).lines) }
     {
         if size != 1 {
             return self.finish_store(alloc, false, out);
@@ -288,8 +308,10 @@ impl Host {
     ) -> Result<(), NoMemory>
         requires { IsStore self.old.core.pending }
         ensures state { OnOk result (self.new ≡ (stores_halt self.old size value).state) }
-        ensures sends { OnOk result (out.new.sends ≡ out.old.sends ++ (stores_halt self.old size value).sends) }
-        ensures lines { OnOk result (out.new.lines ≡ out.old.lines ++ (stores_halt self.old size value).lines) }
+        ensures sends { OnOk result (out.new.sends
+            ≡ out.old.sends ++ (stores_halt self.old size value).sends) }
+        ensures lines { OnOk result (out.new.lines
+            ≡ out.old.lines ++ (stores_halt self.old size value).lines) }
     {
         if size != 4 {
             return self.finish_store(alloc, false, out);
@@ -311,8 +333,10 @@ impl Host {
         requires store { IsStore self.old.core.pending }
         requires size { IsSize size }
         ensures state { OnOk result (self.new ≡ (stores self.old addr size value).state) }
-        ensures sends { OnOk result (out.new.sends ≡ out.old.sends ++ (stores self.old addr size value).sends) }
-        ensures lines { OnOk result (out.new.lines ≡ out.old.lines ++ (stores self.old addr size value).lines) }
+        ensures sends { OnOk result (out.new.sends
+            ≡ out.old.sends ++ (stores self.old addr size value).sends) }
+        ensures lines { OnOk result (out.new.lines
+            ≡ out.old.lines ++ (stores self.old addr size value).lines) }
     {
         match self.map.place(addr) {
             Place::Ram(offset) => self.store_ram(alloc, offset, size, value, out),
@@ -334,8 +358,10 @@ impl Host {
         requires store { IsStore self.old.core.pending }
         requires size { IsSize size }
         ensures state { OnOk result (self.new ≡ (stores_at self.old size value place).state) }
-        ensures sends { OnOk result (out.new.sends ≡ out.old.sends ++ (stores_at self.old size value place).sends) }
-        ensures lines { OnOk result (out.new.lines ≡ out.old.lines ++ (stores_at self.old size value place).lines) }
+        ensures sends { OnOk result (out.new.sends
+            ≡ out.old.sends ++ (stores_at self.old size value place).sends) }
+        ensures lines { OnOk result (out.new.lines
+            ≡ out.old.lines ++ (stores_at self.old size value place).lines) }
     {
         let id = self.next_id;
         match place {

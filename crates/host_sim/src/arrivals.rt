@@ -50,8 +50,10 @@ impl Host {
     ) -> Result<(), NoMemory>
         requires { t < 10 ^ 15 }
         ensures state { OnOk result (self.new ≡ (read_done self.old t port id bytes.now).state) }
-        ensures sends { OnOk result (out.new.sends ≡ out.old.sends ++ (read_done self.old t port id bytes.now).sends) }
-        ensures lines { OnOk result (out.new.lines ≡ out.old.lines ++ (read_done self.old t port id bytes.now).lines) }
+        ensures sends { OnOk result (out.new.sends
+            ≡ out.old.sends ++ (read_done self.old t port id bytes.now).sends) }
+        ensures lines { OnOk result (out.new.lines
+            ≡ out.old.lines ++ (read_done self.old t port id bytes.now).lines) }
     {
         let pending = self.core.pending();
         if self.phase.awaits(port, id) && is_load_of(pending, bytes.len()) {
@@ -74,8 +76,10 @@ impl Host {
     ) -> Result<(), NoMemory>
         requires { t < 10 ^ 15 }
         ensures state { OnOk result (self.new ≡ (write_done self.old t port id).state) }
-        ensures sends { OnOk result (out.new.sends ≡ out.old.sends ++ (write_done self.old t port id).sends) }
-        ensures lines { OnOk result (out.new.lines ≡ out.old.lines ++ (write_done self.old t port id).lines) }
+        ensures sends { OnOk result (out.new.sends
+            ≡ out.old.sends ++ (write_done self.old t port id).sends) }
+        ensures lines { OnOk result (out.new.lines
+            ≡ out.old.lines ++ (write_done self.old t port id).lines) }
     {
         let pending = self.core.pending();
         if self.phase.awaits(port, id) && is_store(pending) {
@@ -116,7 +120,8 @@ impl Host {
         out: &mut Effects,
     ) -> Result<(), NoMemory>
         ensures sends { OnOk result (out.new.sends ≡ out.old.sends) }
-        ensures lines { OnOk result (out.new.lines ≡ out.old.lines ++ fault_lines self.now addr len) }
+        ensures lines { OnOk result (out.new.lines
+            ≡ out.old.lines ++ fault_lines self.now addr len) }
     {
         if self.is_ram(addr, len) {
             return Ok(());
@@ -152,8 +157,10 @@ impl Host {
         out: &mut Effects,
     ) -> Result<(), NoMemory>
         ensures state { OnOk result (self.new ≡ (dma_read self.old port id addr len).state) }
-        ensures sends { OnOk result (out.new.sends ≡ out.old.sends ++ (dma_read self.old port id addr len).sends) }
-        ensures lines { OnOk result (out.new.lines ≡ out.old.lines ++ (dma_read self.old port id addr len).lines) }
+        ensures sends { OnOk result (out.new.sends
+            ≡ out.old.sends ++ (dma_read self.old port id addr len).sends) }
+        ensures lines { OnOk result (out.new.lines
+            ≡ out.old.lines ++ (dma_read self.old port id addr len).lines) }
     {
         let len = len.bytes();
         let bytes = Data::new(self.bytes_for(alloc, addr, len)?).unwrap();
@@ -181,8 +188,10 @@ impl Host {
         out: &mut Effects,
     ) -> Result<(), NoMemory>
         ensures state { OnOk result (self.new ≡ (dma_write self.old port id addr bytes).state) }
-        ensures sends { OnOk result (out.new.sends ≡ out.old.sends ++ (dma_write self.old port id addr bytes).sends) }
-        ensures lines { OnOk result (out.new.lines ≡ out.old.lines ++ (dma_write self.old port id addr bytes).lines) }
+        ensures sends { OnOk result (out.new.sends
+            ≡ out.old.sends ++ (dma_write self.old port id addr bytes).sends) }
+        ensures lines { OnOk result (out.new.lines
+            ≡ out.old.lines ++ (dma_write self.old port id addr bytes).lines) }
     {
         let bytes = bytes.into_bytes();
         let len = bytes.len() as u32;
@@ -203,8 +212,10 @@ impl Host {
     ) -> Result<(), NoMemory>
         requires { t < 10 ^ 15 }
         ensures state { OnOk result (self.new ≡ (takes_dev self.old t port message).state) }
-        ensures sends { OnOk result (out.new.sends ≡ out.old.sends ++ (takes_dev self.old t port message).sends) }
-        ensures lines { OnOk result (out.new.lines ≡ out.old.lines ++ (takes_dev self.old t port message).lines) }
+        ensures sends { OnOk result (out.new.sends
+            ≡ out.old.sends ++ (takes_dev self.old t port message).sends) }
+        ensures lines { OnOk result (out.new.lines
+            ≡ out.old.lines ++ (takes_dev self.old t port message).lines) }
     {
         match message {
             DevMsg::Read { id, addr, len } => self.take_read(alloc, port, id, addr, len, out),
@@ -231,8 +242,10 @@ impl Host {
     ) -> Result<(), NoMemory>
         requires { t < 10 ^ 15 }
         ensures state { OnOk result (self.new ≡ (takes_mem self.old t port message).state) }
-        ensures sends { OnOk result (out.new.sends ≡ out.old.sends ++ (takes_mem self.old t port message).sends) }
-        ensures lines { OnOk result (out.new.lines ≡ out.old.lines ++ (takes_mem self.old t port message).lines) }
+        ensures sends { OnOk result (out.new.sends
+            ≡ out.old.sends ++ (takes_mem self.old t port message).sends) }
+        ensures lines { OnOk result (out.new.lines
+            ≡ out.old.lines ++ (takes_mem self.old t port message).lines) }
     {
         match message {
             MemMsg::ReadDone { id, bytes } => {

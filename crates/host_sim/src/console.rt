@@ -78,8 +78,10 @@ impl Host {
         out: &mut Effects,
     ) -> Result<(), NoMemory>
         ensures state { OnOk result (self.new ≡ (prints self.old byte).state) }
-        ensures sends { OnOk result (out.new.sends ≡ out.old.sends ++ (prints self.old byte).sends) }
-        ensures lines { OnOk result (out.new.lines ≡ out.old.lines ++ (prints self.old byte).lines) }
+        ensures sends { OnOk result (out.new.sends
+            ≡ out.old.sends ++ (prints self.old byte).sends) }
+        ensures lines { OnOk result (out.new.lines
+            ≡ out.old.lines ++ (prints self.old byte).lines) }
     {
         if byte == b'\n' {
             return self.flush(alloc, out);
@@ -114,8 +116,10 @@ impl Host {
         out: &mut Effects,
     ) -> Result<(), NoMemory>
         ensures state { OnOk result (self.new ≡ (halts self.old value).state) }
-        ensures sends { OnOk result (out.new.sends ≡ out.old.sends ++ (halts self.old value).sends) }
-        ensures lines { OnOk result (out.new.lines ≡ out.old.lines ++ (halts self.old value).lines) }
+        ensures sends { OnOk result (out.new.sends
+            ≡ out.old.sends ++ (halts self.old value).sends) }
+        ensures lines { OnOk result (out.new.lines
+            ≡ out.old.lines ++ (halts self.old value).lines) }
     {
         self.end(alloc, out)?;
         let mut line = LineText::new(alloc);
@@ -135,8 +139,10 @@ impl Host {
         out: &mut Effects,
     ) -> Result<(), NoMemory>
         ensures state { OnOk result (self.new ≡ (traps self.old cause).state) }
-        ensures sends { OnOk result (out.new.sends ≡ out.old.sends ++ (traps self.old cause).sends) }
-        ensures lines { OnOk result (out.new.lines ≡ out.old.lines ++ (traps self.old cause).lines) }
+        ensures sends { OnOk result (out.new.sends
+            ≡ out.old.sends ++ (traps self.old cause).sends) }
+        ensures lines { OnOk result (out.new.lines
+            ≡ out.old.lines ++ (traps self.old cause).lines) }
     {
         let mut line = LineText::new(alloc);
         line.append(b"trap ")?;

@@ -21,8 +21,10 @@ impl Host {
     ) -> Result<(), NoMemory>
         requires { t < 10 ^ 15 }
         ensures state { OnOk result (self.new ≡ (takes self.old t port body).state) }
-        ensures sends { OnOk result (out.new.sends ≡ out.old.sends ++ (takes self.old t port body).sends) }
-        ensures lines { OnOk result (out.new.lines ≡ out.old.lines ++ (takes self.old t port body).lines) }
+        ensures sends { OnOk result (out.new.sends
+            ≡ out.old.sends ++ (takes self.old t port body).sends) }
+        ensures lines { OnOk result (out.new.lines
+            ≡ out.old.lines ++ (takes self.old t port body).lines) }
     {
         match body {
             Body::Dev(message) => self.take_dev(alloc, t, port, message, out),

@@ -164,8 +164,10 @@ impl Host {
         requires free { self.old.core.pending ≡ access.Nothing }
         requires in_run { t < 10 ^ 15 }
         ensures state { OnOk result (self.new ≡ (ticks_once self.old t).state) }
-        ensures sends { OnOk result (out.new.sends ≡ out.old.sends ++ (ticks_once self.old t).sends) }
-        ensures lines { OnOk result (out.new.lines ≡ out.old.lines ++ (ticks_once self.old t).lines) }
+        ensures sends { OnOk result (out.new.sends
+            ≡ out.old.sends ++ (ticks_once self.old t).sends) }
+        ensures lines { OnOk result (out.new.lines
+            ≡ out.old.lines ++ (ticks_once self.old t).lines) }
     {
         self.due_after(t);
         self.run(alloc, out)?;

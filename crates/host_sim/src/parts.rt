@@ -48,8 +48,10 @@ impl Host {
         requires in_run { _at ≤ 10 ^ 15 }
         ensures value { result ≡ Ok (host_parts self) }
         // With the configuration that the host was started with, its parts are valid, and make the same host again.
-        ensures valid { (config : HostConfig) → IsOf config self → IsValidAt config _at (host_parts self) }
-        ensures again { (config : HostConfig) → IsOf config self → resumed config (host_parts self) ≡ self }
+        ensures valid { (config : HostConfig) → IsOf config self
+            → IsValidAt config _at (host_parts self) }
+        ensures again { (config : HostConfig) → IsOf config self
+            → resumed config (host_parts self) ≡ self }
     {
         let Host {
             core,

@@ -43,8 +43,10 @@ impl Nic {
         out: &mut Effects,
     ) -> Result<(), NoMemory>
         ensures state { OnOk result (self.new ≡ (reads self.old id offset len).state) }
-        ensures sends { OnOk result (out.new.sends ≡ out.old.sends ++ (reads self.old id offset len).sends) }
-        ensures lines { OnOk result (out.new.lines ≡ out.old.lines ++ (reads self.old id offset len).lines) }
+        ensures sends { OnOk result (out.new.sends
+            ≡ out.old.sends ++ (reads self.old id offset len).sends) }
+        ensures lines { OnOk result (out.new.lines
+            ≡ out.old.lines ++ (reads self.old id offset len).lines) }
     {
         let len = len.bytes();
         let bytes = if len == 4 {
@@ -77,8 +79,10 @@ impl Nic {
         out: &mut Effects,
     ) -> Result<(), NoMemory>
         ensures state { OnOk result (self.new ≡ (writes self.old id offset bytes.now).state) }
-        ensures sends { OnOk result (out.new.sends ≡ out.old.sends ++ (writes self.old id offset bytes.now).sends) }
-        ensures lines { OnOk result (out.new.lines ≡ out.old.lines ++ (writes self.old id offset bytes.now).lines) }
+        ensures sends { OnOk result (out.new.sends
+            ≡ out.old.sends ++ (writes self.old id offset bytes.now).sends) }
+        ensures lines { OnOk result (out.new.lines
+            ≡ out.old.lines ++ (writes self.old id offset bytes.now).lines) }
     {
         if bytes.len() == 4 {
             let mut value = [0; 4];

@@ -25,8 +25,10 @@ impl Nic {
     #[tactic(auto, unfolding(crate::specs::Arrival::arrives))]
     pub(crate) fn arrive(&mut self, frame: EthMsg, out: &mut Effects) -> Result<(), NoMemory>
         ensures state { OnOk result (self.new ≡ (arrives self.old frame).state) }
-        ensures sends { OnOk result (out.new.sends ≡ out.old.sends ++ (arrives self.old frame).sends) }
-        ensures lines { OnOk result (out.new.lines ≡ out.old.lines ++ (arrives self.old frame).lines) }
+        ensures sends { OnOk result (out.new.sends
+            ≡ out.old.sends ++ (arrives self.old frame).sends) }
+        ensures lines { OnOk result (out.new.lines
+            ≡ out.old.lines ++ (arrives self.old frame).lines) }
     {
         if !self.regs.rx_on() {
             return out.line(b"drop off");

@@ -14,8 +14,10 @@ impl Nic {
     #[tactic(auto, unfolding(crate::specs::Adapter::hears))]
     fn hear(&mut self, alloc: Global, message: HostMsg, out: &mut Effects) -> Result<(), NoMemory>
         ensures state { OnOk result (self.new ≡ (hears self.old message).state) }
-        ensures sends { OnOk result (out.new.sends ≡ out.old.sends ++ (hears self.old message).sends) }
-        ensures lines { OnOk result (out.new.lines ≡ out.old.lines ++ (hears self.old message).lines) }
+        ensures sends { OnOk result (out.new.sends
+            ≡ out.old.sends ++ (hears self.old message).sends) }
+        ensures lines { OnOk result (out.new.lines
+            ≡ out.old.lines ++ (hears self.old message).lines) }
     {
         match message {
             HostMsg::Read {
@@ -65,8 +67,10 @@ impl Nic {
         out: &mut Effects,
     ) -> Result<(), NoMemory>
         ensures state { OnOk result (self.new ≡ (takes self.old t port body).state) }
-        ensures sends { OnOk result (out.new.sends ≡ out.old.sends ++ (takes self.old t port body).sends) }
-        ensures lines { OnOk result (out.new.lines ≡ out.old.lines ++ (takes self.old t port body).lines) }
+        ensures sends { OnOk result (out.new.sends
+            ≡ out.old.sends ++ (takes self.old t port body).sends) }
+        ensures lines { OnOk result (out.new.lines
+            ≡ out.old.lines ++ (takes self.old t port body).lines) }
     {
         self.feel(alloc, body, out)?;
         self.start_sending(out)?;

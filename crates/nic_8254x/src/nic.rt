@@ -111,8 +111,10 @@ impl Nic {
 
     fn tell_level(&mut self, high: bool, out: &mut Effects) -> Result<(), NoMemory>
         ensures state { OnOk result (self.new ≡ (tells_level self.old high).state) }
-        ensures sends { OnOk result (out.new.sends ≡ out.old.sends ++ (tells_level self.old high).sends) }
-        ensures lines { OnOk result (out.new.lines ≡ out.old.lines ++ (tells_level self.old high).lines) }
+        ensures sends { OnOk result (out.new.sends
+            ≡ out.old.sends ++ (tells_level self.old high).sends) }
+        ensures lines { OnOk result (out.new.lines
+            ≡ out.old.lines ++ (tells_level self.old high).lines) }
     {
         out.send(PCIE, Body::Dev(DevMsg::Level { high }))?;
         self.told = high;

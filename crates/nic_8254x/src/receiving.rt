@@ -53,8 +53,10 @@ impl Nic {
         requires id { IsTrue (has_id self.old) }
         requires waits { self.old.filled < length (first self.old.queue) }
         ensures state { OnOk result (self.new ≡ (reads_descriptor self.old).state) }
-        ensures sends { OnOk result (out.new.sends ≡ out.old.sends ++ (reads_descriptor self.old).sends) }
-        ensures lines { OnOk result (out.new.lines ≡ out.old.lines ++ (reads_descriptor self.old).lines) }
+        ensures sends { OnOk result (out.new.sends
+            ≡ out.old.sends ++ (reads_descriptor self.old).sends) }
+        ensures lines { OnOk result (out.new.lines
+            ≡ out.old.lines ++ (reads_descriptor self.old).lines) }
     {
         let place = self.regs.rx_ring().address();
         let id = self.next_id;
@@ -76,8 +78,10 @@ impl Nic {
     #[tactic(auto, unfolding(crate::specs::Receiving::starts_receiving))]
     pub(crate) fn start_receiving(&mut self, out: &mut Effects) -> Result<(), NoMemory>
         ensures state { OnOk result (self.new ≡ (receives self.old self.old.receiving).state) }
-        ensures sends { OnOk result (out.new.sends ≡ out.old.sends ++ (receives self.old self.old.receiving).sends) }
-        ensures lines { OnOk result (out.new.lines ≡ out.old.lines ++ (receives self.old self.old.receiving).lines) }
+        ensures sends { OnOk result (out.new.sends
+            ≡ out.old.sends ++ (receives self.old self.old.receiving).sends) }
+        ensures lines { OnOk result (out.new.lines
+            ≡ out.old.lines ++ (receives self.old self.old.receiving).lines) }
     {
         match self.receiving {
             RxStep::Idle if self.may_receive() => self.read_rx_descriptor(out),
@@ -98,9 +102,12 @@ impl Nic {
         requires id { IsTrue (has_id self.old) }
         requires part { IsPart (first self.old.queue) self.old.filled part }
         requires more { done < part }
-        ensures state { OnOk result (self.new ≡ (writes_piece self.old place addr part done).state) }
-        ensures sends { OnOk result (out.new.sends ≡ out.old.sends ++ (writes_piece self.old place addr part done).sends) }
-        ensures lines { OnOk result (out.new.lines ≡ out.old.lines ++ (writes_piece self.old place addr part done).lines) }
+        ensures state { OnOk result (self.new ≡
+            (writes_piece self.old place addr part done).state) }
+        ensures sends { OnOk result (out.new.sends
+            ≡ out.old.sends ++ (writes_piece self.old place addr part done).sends) }
+        ensures lines { OnOk result (out.new.lines
+            ≡ out.old.lines ++ (writes_piece self.old place addr part done).lines) }
     {
         let frame = self.queue.first();
         let from = (self.filled + done) as usize;
@@ -138,9 +145,12 @@ impl Nic {
     ) -> Result<(), NoMemory>
         requires id { IsTrue (has_id self.old) }
         requires waits { self.old.filled < length (first self.old.queue) }
-        ensures state { OnOk result (self.new ≡ (has_descriptor self.old place descriptor.now).state) }
-        ensures sends { OnOk result (out.new.sends ≡ out.old.sends ++ (has_descriptor self.old place descriptor.now).sends) }
-        ensures lines { OnOk result (out.new.lines ≡ out.old.lines ++ (has_descriptor self.old place descriptor.now).lines) }
+        ensures state { OnOk result (self.new ≡
+            (has_descriptor self.old place descriptor.now).state) }
+        ensures sends { OnOk result (out.new.sends
+            ≡ out.old.sends ++ (has_descriptor self.old place descriptor.now).sends) }
+        ensures lines { OnOk result (out.new.lines
+            ≡ out.old.lines ++ (has_descriptor self.old place descriptor.now).lines) }
     {
         let left = self.queue.first().len() as u32 - self.filled;
         let part = self.regs.buffer_size().min(left);
@@ -199,8 +209,10 @@ impl Nic {
         requires id { IsTrue (has_id self.old) }
         requires part { IsPart (first self.old.queue) self.old.filled part }
         ensures state { OnOk result (self.new ≡ (writes_back self.old place addr part).state) }
-        ensures sends { OnOk result (out.new.sends ≡ out.old.sends ++ (writes_back self.old place addr part).sends) }
-        ensures lines { OnOk result (out.new.lines ≡ out.old.lines ++ (writes_back self.old place addr part).lines) }
+        ensures sends { OnOk result (out.new.sends
+            ≡ out.old.sends ++ (writes_back self.old place addr part).sends) }
+        ensures lines { OnOk result (out.new.lines
+            ≡ out.old.lines ++ (writes_back self.old place addr part).lines) }
     {
         let bytes = Octets::from_slice(alloc, &self.filled_bytes(addr, part))?;
         let bytes = Data::new(bytes).unwrap();
@@ -232,8 +244,10 @@ impl Nic {
     fn finish_part(&mut self, alloc: Global, part: u32, out: &mut Effects) -> Result<(), NoMemory>
         requires part { IsPart (first self.old.queue) self.old.filled part }
         ensures state { OnOk result (self.new ≡ (part_received self.old part).state) }
-        ensures sends { OnOk result (out.new.sends ≡ out.old.sends ++ (part_received self.old part).sends) }
-        ensures lines { OnOk result (out.new.lines ≡ out.old.lines ++ (part_received self.old part).lines) }
+        ensures sends { OnOk result (out.new.sends
+            ≡ out.old.sends ++ (part_received self.old part).sends) }
+        ensures lines { OnOk result (out.new.lines
+            ≡ out.old.lines ++ (part_received self.old part).lines) }
     {
         self.receiving = RxStep::Idle;
         self.advance_rx();
@@ -265,9 +279,12 @@ impl Nic {
         requires id { IsTrue (has_id self.old) }
         requires part { IsPart (first self.old.queue) self.old.filled part }
         requires more { done < part }
-        ensures state { OnOk result (self.new ≡ (piece_written self.old place addr part done).state) }
-        ensures sends { OnOk result (out.new.sends ≡ out.old.sends ++ (piece_written self.old place addr part done).sends) }
-        ensures lines { OnOk result (out.new.lines ≡ out.old.lines ++ (piece_written self.old place addr part done).lines) }
+        ensures state { OnOk result (self.new ≡
+            (piece_written self.old place addr part done).state) }
+        ensures sends { OnOk result (out.new.sends
+            ≡ out.old.sends ++ (piece_written self.old place addr part done).sends) }
+        ensures lines { OnOk result (out.new.lines
+            ≡ out.old.lines ++ (piece_written self.old place addr part done).lines) }
     {
         let written = done + (part - done).min(PIECE);
         if written < part {
@@ -286,9 +303,12 @@ impl Nic {
         bytes: &[u8],
         out: &mut Effects,
     ) -> Result<(), NoMemory>
-        ensures state { OnOk result (self.new ≡ (rx_read_done self.old self.old.receiving id bytes.now).state) }
-        ensures sends { OnOk result (out.new.sends ≡ out.old.sends ++ (rx_read_done self.old self.old.receiving id bytes.now).sends) }
-        ensures lines { OnOk result (out.new.lines ≡ out.old.lines ++ (rx_read_done self.old self.old.receiving id bytes.now).lines) }
+        ensures state { OnOk result (self.new ≡
+            (rx_read_done self.old self.old.receiving id bytes.now).state) }
+        ensures sends { OnOk result (out.new.sends
+            ≡ out.old.sends ++ (rx_read_done self.old self.old.receiving id bytes.now).sends) }
+        ensures lines { OnOk result (out.new.lines
+            ≡ out.old.lines ++ (rx_read_done self.old self.old.receiving id bytes.now).lines) }
     {
         match self.receiving {
             RxStep::Read { id: asked, place }
@@ -309,9 +329,12 @@ impl Nic {
         id: u64,
         out: &mut Effects,
     ) -> Result<(), NoMemory>
-        ensures state { OnOk result (self.new ≡ (rx_write_done self.old self.old.receiving id).state) }
-        ensures sends { OnOk result (out.new.sends ≡ out.old.sends ++ (rx_write_done self.old self.old.receiving id).sends) }
-        ensures lines { OnOk result (out.new.lines ≡ out.old.lines ++ (rx_write_done self.old self.old.receiving id).lines) }
+        ensures state { OnOk result (self.new ≡
+            (rx_write_done self.old self.old.receiving id).state) }
+        ensures sends { OnOk result (out.new.sends
+            ≡ out.old.sends ++ (rx_write_done self.old self.old.receiving id).sends) }
+        ensures lines { OnOk result (out.new.lines
+            ≡ out.old.lines ++ (rx_write_done self.old self.old.receiving id).lines) }
     {
         match self.receiving {
             RxStep::Data {

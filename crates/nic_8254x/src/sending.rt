@@ -66,8 +66,10 @@ impl Nic {
     fn read_tx_descriptor(&mut self, out: &mut Effects) -> Result<(), NoMemory>
         requires id { IsTrue (has_id self.old) }
         ensures state { OnOk result (self.new ≡ (reads_descriptor self.old).state) }
-        ensures sends { OnOk result (out.new.sends ≡ out.old.sends ++ (reads_descriptor self.old).sends) }
-        ensures lines { OnOk result (out.new.lines ≡ out.old.lines ++ (reads_descriptor self.old).lines) }
+        ensures sends { OnOk result (out.new.sends
+            ≡ out.old.sends ++ (reads_descriptor self.old).sends) }
+        ensures lines { OnOk result (out.new.lines
+            ≡ out.old.lines ++ (reads_descriptor self.old).lines) }
     {
         let place = self.regs.tx_ring().address();
         let id = self.next_id;
@@ -89,8 +91,10 @@ impl Nic {
     #[tactic(auto, unfolding(crate::specs::Sending::starts_sending))]
     pub(crate) fn start_sending(&mut self, out: &mut Effects) -> Result<(), NoMemory>
         ensures state { OnOk result (self.new ≡ (sends_on self.old self.old.sending).state) }
-        ensures sends { OnOk result (out.new.sends ≡ out.old.sends ++ (sends_on self.old self.old.sending).sends) }
-        ensures lines { OnOk result (out.new.lines ≡ out.old.lines ++ (sends_on self.old self.old.sending).lines) }
+        ensures sends { OnOk result (out.new.sends
+            ≡ out.old.sends ++ (sends_on self.old self.old.sending).sends) }
+        ensures lines { OnOk result (out.new.lines
+            ≡ out.old.lines ++ (sends_on self.old self.old.sending).lines) }
     {
         match self.sending {
             TxStep::Idle if self.may_send() => self.read_tx_descriptor(out),
@@ -123,8 +127,10 @@ impl Nic {
         out: &mut Effects,
     ) -> Result<(), NoMemory>
         ensures state { OnOk result (self.new ≡ (completes self.old descriptor.now).state) }
-        ensures sends { OnOk result (out.new.sends ≡ out.old.sends ++ (completes self.old descriptor.now).sends) }
-        ensures lines { OnOk result (out.new.lines ≡ out.old.lines ++ (completes self.old descriptor.now).lines) }
+        ensures sends { OnOk result (out.new.sends
+            ≡ out.old.sends ++ (completes self.old descriptor.now).sends) }
+        ensures lines { OnOk result (out.new.lines
+            ≡ out.old.lines ++ (completes self.old descriptor.now).lines) }
         ensures same_id { OnOk result (self.new.next_id ≡ self.old.next_id) }
     {
         if self.work.len() < 14 || self.work.len() > 1514 {
@@ -136,8 +142,10 @@ impl Nic {
 
     fn drop_frame(&mut self, alloc: Global, out: &mut Effects) -> Result<(), NoMemory>
         ensures state { OnOk result (self.new ≡ (drops_frame self.old).state) }
-        ensures sends { OnOk result (out.new.sends ≡ out.old.sends ++ (drops_frame self.old).sends) }
-        ensures lines { OnOk result (out.new.lines ≡ out.old.lines ++ (drops_frame self.old).lines) }
+        ensures sends { OnOk result (out.new.sends
+            ≡ out.old.sends ++ (drops_frame self.old).sends) }
+        ensures lines { OnOk result (out.new.lines
+            ≡ out.old.lines ++ (drops_frame self.old).lines) }
     {
         self.work = Octets::new(alloc);
         out.line(b"drop size")
@@ -151,9 +159,12 @@ impl Nic {
     ) -> Result<(), NoMemory>
         requires least { 14 ≤ length self.old.work }
         requires most { length self.old.work ≤ 1514 }
-        ensures state { OnOk result (self.new ≡ (sends_frame self.old (frame_of self.old descriptor.now)).state) }
-        ensures sends { OnOk result (out.new.sends ≡ out.old.sends ++ (sends_frame self.old (frame_of self.old descriptor.now)).sends) }
-        ensures lines { OnOk result (out.new.lines ≡ out.old.lines ++ (sends_frame self.old (frame_of self.old descriptor.now)).lines) }
+        ensures state { OnOk result (self.new ≡ (sends_frame self.old
+            (frame_of self.old descriptor.now)).state) }
+        ensures sends { OnOk result (out.new.sends
+            ≡ out.old.sends ++ (sends_frame self.old (frame_of self.old descriptor.now)).sends) }
+        ensures lines { OnOk result (out.new.lines
+            ≡ out.old.lines ++ (sends_frame self.old (frame_of self.old descriptor.now)).lines) }
     {
         let work = mem::replace(&mut self.work, Octets::new(alloc));
         let frame = self.frame_of(descriptor, work)?;
@@ -168,7 +179,8 @@ impl Nic {
     fn frame_of(&self, descriptor: &TxDesc, work: Octets) -> Result<EthMsg, NoMemory>
         requires least { 14 ≤ length work }
         requires most { length work ≤ 1514 }
-        ensures { IfOk result (λ frame. frame ≡ padded self.now.regs (checksummed descriptor.now work)) }
+        ensures { IfOk result (λ frame. frame ≡ padded self.now.regs
+            (checksummed descriptor.now work)) }
     {
         let mut frame = work.into_vec();
         insert_checksum(descriptor, frame.as_mut_slice());
@@ -188,8 +200,10 @@ impl Nic {
     ) -> Result<(), NoMemory>
         requires id { IsTrue (has_id self.old) }
         ensures state { OnOk result (self.new ≡ (writes_back self.old place descriptor.now).state) }
-        ensures sends { OnOk result (out.new.sends ≡ out.old.sends ++ (writes_back self.old place descriptor.now).sends) }
-        ensures lines { OnOk result (out.new.lines ≡ out.old.lines ++ (writes_back self.old place descriptor.now).lines) }
+        ensures sends { OnOk result (out.new.sends
+            ≡ out.old.sends ++ (writes_back self.old place descriptor.now).sends) }
+        ensures lines { OnOk result (out.new.lines
+            ≡ out.old.lines ++ (writes_back self.old place descriptor.now).lines) }
     {
         let bytes = Octets::from_slice(alloc, &[descriptor.status | DD])?;
         let bytes = Data::new(bytes).unwrap();
@@ -210,9 +224,12 @@ impl Nic {
         out: &mut Effects,
     ) -> Result<(), NoMemory>
         requires id { IsTrue (reports descriptor.now) → IsTrue (has_id self.old) }
-        ensures state { OnOk result (self.new ≡ (reports_or_advances descriptor.now place self.old).state) }
-        ensures sends { OnOk result (out.new.sends ≡ out.old.sends ++ (reports_or_advances descriptor.now place self.old).sends) }
-        ensures lines { OnOk result (out.new.lines ≡ out.old.lines ++ (reports_or_advances descriptor.now place self.old).lines) }
+        ensures state { OnOk result (self.new ≡
+            (reports_or_advances descriptor.now place self.old).state) }
+        ensures sends { OnOk result (out.new.sends
+            ≡ out.old.sends ++ (reports_or_advances descriptor.now place self.old).sends) }
+        ensures lines { OnOk result (out.new.lines
+            ≡ out.old.lines ++ (reports_or_advances descriptor.now place self.old).lines) }
     {
         if descriptor.cmd & RS != 0 {
             self.write_status(alloc, place, descriptor, out)
@@ -232,8 +249,10 @@ impl Nic {
     ) -> Result<(), NoMemory>
         requires id { IsTrue (reports descriptor.now) → IsTrue (has_id self.old) }
         ensures state { OnOk result (self.new ≡ (finishes self.old place descriptor.now).state) }
-        ensures sends { OnOk result (out.new.sends ≡ out.old.sends ++ (finishes self.old place descriptor.now).sends) }
-        ensures lines { OnOk result (out.new.lines ≡ out.old.lines ++ (finishes self.old place descriptor.now).lines) }
+        ensures sends { OnOk result (out.new.sends
+            ≡ out.old.sends ++ (finishes self.old place descriptor.now).sends) }
+        ensures lines { OnOk result (out.new.lines
+            ≡ out.old.lines ++ (finishes self.old place descriptor.now).lines) }
     {
         if descriptor.cmd & EOP != 0 {
             self.complete(alloc, descriptor, out)?;
@@ -252,8 +271,10 @@ impl Nic {
         requires id { IsTrue (has_id self.old) }
         requires more { done < (tx_desc_of bytes.now).length }
         ensures state { OnOk result (self.new ≡ (reads_piece self.old place bytes.now done).state) }
-        ensures sends { OnOk result (out.new.sends ≡ out.old.sends ++ (reads_piece self.old place bytes.now done).sends) }
-        ensures lines { OnOk result (out.new.lines ≡ out.old.lines ++ (reads_piece self.old place bytes.now done).lines) }
+        ensures sends { OnOk result (out.new.sends
+            ≡ out.old.sends ++ (reads_piece self.old place bytes.now done).sends) }
+        ensures lines { OnOk result (out.new.lines
+            ≡ out.old.lines ++ (reads_piece self.old place bytes.now done).lines) }
     {
         let descriptor = TxDesc::from_bytes(bytes);
         let id = self.next_id;
@@ -281,8 +302,10 @@ impl Nic {
     ) -> Result<(), NoMemory>
         requires id { IsTrue (needs_id (tx_desc_of bytes.now) done) → IsTrue (has_id self.old) }
         ensures state { OnOk result (self.new ≡ (goes_on self.old place bytes.now done).state) }
-        ensures sends { OnOk result (out.new.sends ≡ out.old.sends ++ (goes_on self.old place bytes.now done).sends) }
-        ensures lines { OnOk result (out.new.lines ≡ out.old.lines ++ (goes_on self.old place bytes.now done).lines) }
+        ensures sends { OnOk result (out.new.sends
+            ≡ out.old.sends ++ (goes_on self.old place bytes.now done).sends) }
+        ensures lines { OnOk result (out.new.lines
+            ≡ out.old.lines ++ (goes_on self.old place bytes.now done).lines) }
     {
         let descriptor = TxDesc::from_bytes(bytes);
         if done < u32::from(descriptor.length) {
@@ -316,8 +339,10 @@ impl Nic {
         out: &mut Effects,
     ) -> Result<(), NoMemory>
         ensures state { OnOk result (self.new ≡ (has_descriptor self.old place bytes.now).state) }
-        ensures sends { OnOk result (out.new.sends ≡ out.old.sends ++ (has_descriptor self.old place bytes.now).sends) }
-        ensures lines { OnOk result (out.new.lines ≡ out.old.lines ++ (has_descriptor self.old place bytes.now).lines) }
+        ensures sends { OnOk result (out.new.sends
+            ≡ out.old.sends ++ (has_descriptor self.old place bytes.now).sends) }
+        ensures lines { OnOk result (out.new.lines
+            ≡ out.old.lines ++ (has_descriptor self.old place bytes.now).lines) }
     {
         let descriptor = TxDesc::from_bytes(bytes);
         if descriptor.cmd & DEXT != 0 {
@@ -340,9 +365,12 @@ impl Nic {
         out: &mut Effects,
     ) -> Result<(), NoMemory>
         requires { done + length bytes.now < 2 ^ 32 }
-        ensures state { OnOk result (self.new ≡ (piece_read self.old place descriptor.now done bytes.now).state) }
-        ensures sends { OnOk result (out.new.sends ≡ out.old.sends ++ (piece_read self.old place descriptor.now done bytes.now).sends) }
-        ensures lines { OnOk result (out.new.lines ≡ out.old.lines ++ (piece_read self.old place descriptor.now done bytes.now).lines) }
+        ensures state { OnOk result (self.new ≡
+            (piece_read self.old place descriptor.now done bytes.now).state) }
+        ensures sends { OnOk result (out.new.sends
+            ≡ out.old.sends ++ (piece_read self.old place descriptor.now done bytes.now).sends) }
+        ensures lines { OnOk result (out.new.lines
+            ≡ out.old.lines ++ (piece_read self.old place descriptor.now done bytes.now).lines) }
     {
         let done = done + bytes.len() as u32;
         if self.lacks_id(&TxDesc::from_bytes(descriptor), done) {
@@ -361,9 +389,12 @@ impl Nic {
         bytes: &[u8],
         out: &mut Effects,
     ) -> Result<(), NoMemory>
-        ensures state { OnOk result (self.new ≡ (tx_read_done self.old self.old.sending id bytes.now).state) }
-        ensures sends { OnOk result (out.new.sends ≡ out.old.sends ++ (tx_read_done self.old self.old.sending id bytes.now).sends) }
-        ensures lines { OnOk result (out.new.lines ≡ out.old.lines ++ (tx_read_done self.old self.old.sending id bytes.now).lines) }
+        ensures state { OnOk result (self.new ≡
+            (tx_read_done self.old self.old.sending id bytes.now).state) }
+        ensures sends { OnOk result (out.new.sends
+            ≡ out.old.sends ++ (tx_read_done self.old self.old.sending id bytes.now).sends) }
+        ensures lines { OnOk result (out.new.lines
+            ≡ out.old.lines ++ (tx_read_done self.old self.old.sending id bytes.now).lines) }
     {
         let sending = self.sending;
         match sending {

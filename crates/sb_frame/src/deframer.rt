@@ -61,7 +61,8 @@ impl Deframer {
         ensures ok { OnOk result (self.new.fault ≡ None) }
         ensures err { IfErr result (λ b. b ≢ bad.NoMemory → self.new.fault ≡ Some b) }
         ensures first_fault { (stream : List ℕ) (given : List Msg) → Stands self.old stream given
-            → IfErr result (λ b. b ≢ bad.NoMemory → FirstFault self.new.place.kind (stream ++ piece.now) b) }
+            → IfErr result (λ b. b ≢ bad.NoMemory → FirstFault self.new.place.kind
+            (stream ++ piece.now) b) }
         ensures no_memory { result ≡ Err bad.NoMemory → self.new ≡ self.old }
         ensures for_good { IfSome self.old.fault (λ b. result ≡ Err b) }
         ensures kind { self.new.place.kind ≡ self.old.place.kind }
@@ -107,15 +108,19 @@ impl Deframer {
     fn take_in(&mut self, piece: &[u8]) -> Result<(), FrameBad>
         requires no_fault { self.old.fault ≡ None }
         requires opened { IsOpen self.old.begun }
-        requires room { self.old.place.offset + (length self.old.begun + length piece.now) < 2 ^ 64 }
+        requires room { self.old.place.offset +
+            (length self.old.begun + length piece.now) < 2 ^ 64 }
         ensures kind { self.new.place.kind ≡ self.old.place.kind }
         ensures fault { self.new.fault ≡ None }
-        ensures keeps { take (length self.old.place.waiting) self.new.place.waiting ≡ self.old.place.waiting }
-        ensures begun { result ≡ Err bad.NoMemory → take (length self.old.begun) self.new.begun ≡ self.old.begun }
+        ensures keeps { take (length self.old.place.waiting) self.new.place.waiting
+            ≡ self.old.place.waiting }
+        ensures begun { result ≡ Err bad.NoMemory → take (length self.old.begun) self.new.begun
+            ≡ self.old.begun }
         ensures ok { (stream : List ℕ) (given : List Msg) → Stands self.old stream given
             → OnOk result (Stands self.new (stream ++ piece.now) given) }
         ensures err { (stream : List ℕ) (given : List Msg) → Stands self.old stream given
-            → IfErr result (λ b. b ≢ bad.NoMemory → Stands (record self.new { fault = Some b }) (stream ++ piece.now) given) }
+            → IfErr result (λ b. b ≢ bad.NoMemory → Stands (record self.new { fault = Some b })
+            (stream ++ piece.now) given) }
     {
         let Some(taken) = self.finish_begun(piece)? else {
             return Ok(());
@@ -132,12 +137,14 @@ impl Deframer {
     // the frame are still to come.
     fn finish_begun(&mut self, piece: &[u8]) -> Result<Option<usize>, FrameBad>
         requires opened { IsOpen self.old.begun }
-        requires room { self.old.place.offset + (length self.old.begun + length piece.now) < 2 ^ 64 }
+        requires room { self.old.place.offset +
+            (length self.old.begun + length piece.now) < 2 ^ 64 }
         ensures fault { self.new.fault ≡ self.old.fault }
         ensures begun { take (length self.old.begun) self.new.begun ≡ self.old.begun }
         ensures ok { IfOk result (λ taken. Finishes self.old piece.now self.new taken) }
         ensures same { IfErr result (λ _. self.new.place ≡ self.old.place) }
-        ensures err { IfErr result (λ b. b ≢ bad.NoMemory → StopsAt self.old.place (self.old.begun ++ piece.now) b) }
+        ensures err { IfErr result (λ b. b ≢ bad.NoMemory
+            → StopsAt self.old.place (self.old.begun ++ piece.now) b) }
     {
         if self.begun.is_empty() {
             return Ok(Some(0));

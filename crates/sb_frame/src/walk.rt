@@ -91,7 +91,8 @@ impl Walk {
 
     /// Goes back to a place before.
     pub(crate) fn back_to(&mut self, mark: Mark)
-        ensures { self.new ≡ record self.old { last = mark.last; offset = mark.offset; waiting = take mark.waiting self.old.waiting } }
+        ensures { self.new ≡ record self.old
+            { last = mark.last; offset = mark.offset; waiting = take mark.waiting self.old.waiting } }
     {
         self.last = mark.last;
         self.offset = mark.offset;
@@ -123,7 +124,8 @@ impl Walk {
     // The message that the bytes spell.
     fn message(&self, alloc: Global, body: &[u8]) -> Result<Msg, FrameBad>
         ensures ok { IfOk result (λ m. Spells self.now.kind m body.now) }
-        ensures err { IfErr result (λ b. b ≢ bad.NoMemory → IsBadMessage self.now.kind self.now.last self.now.offset body.now b) }
+        ensures err { IfErr result (λ b. b ≢ bad.NoMemory
+            → IsBadMessage self.now.kind self.now.last self.now.offset body.now b) }
     {
         match decode(alloc, self.kind, body) {
             Ok(message) => Ok(message),
@@ -136,7 +138,8 @@ impl Walk {
         requires { self.old.offset + (4 + length body.now) < 2 ^ 64 }
         ensures ok { OnOk result (Accepts self.old body.now self.new) }
         ensures unchanged { IfErr result (λ _. self.new ≡ self.old) }
-        ensures err { IfErr result (λ b. b ≢ bad.NoMemory → IsBadMessage self.old.kind self.old.last self.old.offset body.now b) }
+        ensures err { IfErr result (λ b. b ≢ bad.NoMemory
+            → IsBadMessage self.old.kind self.old.last self.old.offset body.now b) }
     {
         let message = self.message(alloc, body)?;
         if let Some(bad) = self.rule_fault(&message) {
