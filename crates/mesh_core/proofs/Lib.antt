@@ -13,3 +13,5 @@ mod Outcomes
 mod Going
 mod Falling
 mod Numbered
+mod Walked
+mod Rounds

@@ -5,6 +5,8 @@ mod build;
 pub mod laws;
 pub mod mesh;
 mod outcome;
+mod seen;
+mod serial;
 pub mod way;
 
 pub use mesh::Mesh;
