@@ -13,3 +13,5 @@ pub mod Outcomes
 mod Going
 mod Falling
 mod Numbered
+mod Walked
+mod Rounds

@@ -3,6 +3,7 @@ pub mod Steps
 pub mod Start
 pub mod MeshOf
 pub mod ToCome
+pub mod Walk
 pub mod Laws
 pub mod Building
 pub mod Left

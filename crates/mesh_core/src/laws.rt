@@ -1,6 +1,7 @@
 //! What holds of a mesh however it is stepped.
 ghost use Rattle.mesh_core.specs.Laws.{StartsStanding, StepsKeepIt, LogsBegin, ListsBegin, LogsAreWhole, ListsAreWhole, LeavesLogs, LeavesCounts, NeverStuck};
 ghost use Rattle.mesh_core.specs.ToCome.{StepsLowerIt, NoneIsToCome, IsOneNumber};
+ghost use Rattle.mesh_core.specs.Walk.{WalksLowerIt};
 
 use device_api::Device;
 
@@ -42,4 +43,9 @@ pub fn so_many_steps_are_to_come<V: Device>()
     ensures one_less { StepsLowerIt V.behaviour V.settled }
     ensures none { NoneIsToCome V.behaviour V.settled }
     ensures one_number { IsOneNumber V.behaviour V.settled }
+{}
+
+/// So many steps, one after another, leave a mesh of the system, of which so many less are to come.
+pub fn a_walk_keeps_a_mesh_standing<V: Device>()
+    ensures { WalksLowerIt V.behaviour V.settled }
 {}

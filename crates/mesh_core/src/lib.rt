@@ -5,6 +5,8 @@ pub mod build;
 pub mod laws;
 pub mod mesh;
 pub mod outcome;
+mod seen;
+mod serial;
 pub mod way;
 
 pub use mesh::Mesh;

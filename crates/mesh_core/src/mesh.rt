@@ -1,4 +1,4 @@
-ghost use Rattle.std.specs.Prelude.{◌≡◌, ◌↔◌, IsTrue, IfOk, All, map, ℕ};
+ghost use Rattle.std.specs.Prelude.{◌≡◌, ◌↔◌, ◌||◌, Bool, IsTrue, IfOk, All, length, map, ℕ};
 ghost use Rattle.cs_base.specs.declared.link.Link.{Link};
 ghost use Rattle.cs_base.specs.declared.port_kind.Via.TheVariants.{Queue};
 ghost use Rattle.sync_laws.specs.Whole.{HaveEnded};
@@ -6,6 +6,8 @@ ghost use Rattle.run_steps.specs.declared.step.Step.TheVariants.{Event, Send as 
 
 use crate::build::{queues_of, runners_of, ways_of};
 use crate::outcome::{Room, count_all, finish_all};
+use crate::seen::Seen;
+use crate::serial::{Awake, Woken};
 use crate::way::Way;
 use cs_base::items::Items;
 use cs_base::no_memory::NoMemory;
@@ -44,6 +46,7 @@ impl<V: Device> Mesh<V> {
     ghost use Rattle.mesh_core.specs.Steps.{Steps};
     ghost use Rattle.mesh_core.specs.MeshOf.{IsMesh};
     ghost use Rattle.mesh_core.specs.Left.{logs_left, counts_left};
+    ghost use Rattle.mesh_core.specs.Walk.{WentToTheEnd, Rounds, RunsEach, RunsOn, CarriesEach, Carries};
 
     /// A mesh of devices at their start, joined by a wiring of which no link goes by proxy.
     pub fn new(alloc: Global, devices: Vec<V>, wiring: &Wiring) -> Result<Mesh<V>, NoMemory>
@@ -73,8 +76,8 @@ impl<V: Device> Mesh<V> {
     {
         match step {
             Step::Event(component) => self.event(alloc, component),
-            Step::Send(channel) => Ok(self.send(channel)),
-            Step::Poll(channel) => self.poll(channel),
+            Step::Send(channel) => Ok(self.send(channel as usize)),
+            Step::Poll(channel) => self.poll(channel as usize),
             Step::Take(_) | Step::Move(_, _) | Step::Put(_) => Ok(false),
         }
     }
@@ -90,11 +93,10 @@ impl<V: Device> Mesh<V> {
         self.runners[component].event(alloc)
     }
 
-    fn send(&mut self, channel: u32) -> bool
+    fn send(&mut self, channel: usize) -> bool
         requires { IsMesh V.behaviour V.settled self.old }
         ensures { Steps V.behaviour (Sent channel) self.old self.new result }
     {
-        let channel = channel as usize;
         if channel >= self.ways.len() {
             return false;
         }
@@ -102,11 +104,10 @@ impl<V: Device> Mesh<V> {
         self.runners[from.component as usize].send(from.port, &mut self.queues[channel])
     }
 
-    fn poll(&mut self, channel: u32) -> Result<bool, NoMemory>
+    fn poll(&mut self, channel: usize) -> Result<bool, NoMemory>
         requires { IsMesh V.behaviour V.settled self.old }
         ensures { IfOk result (Steps V.behaviour (Poll channel) self.old self.new) }
     {
-        let channel = channel as usize;
         if channel >= self.ways.len() {
             return Ok(false);
         }
@@ -117,6 +118,94 @@ impl<V: Device> Mesh<V> {
             // A channel of a mesh begins with its introduction.
             Err(RunBad::WrongIntro { .. }) => Ok(false),
         }
+    }
+
+    /// Takes steps that are enabled until all components have ended and all that was sent is received. It takes no memory
+    /// but what the steps take. After `NoMemory` the mesh is spent.
+    pub fn serial(&mut self, alloc: Global) -> Result<(), NoMemory>
+        requires { IsMesh V.behaviour V.settled self.old }
+        ensures { IfOk result (λ done. WentToTheEnd V.behaviour self.old self.new) }
+    {
+        let mut awake = Awake::Everyone;
+        let mut seen = Seen::of(self);
+        'rounds: loop {
+            let woken = self.round(alloc, awake)?;
+            if woken.moved {
+                awake = Awake::Those(woken.bits);
+                seen = Seen::of(self);
+            } else if awake.is_everyone() {
+                return Ok(());
+            } else {
+                awake = Awake::Everyone;
+            }
+        }
+    }
+
+    /// A turn of each component that is awake, and of each channel that leads from one or to one.
+    fn round(&mut self, alloc: Global, awake: Awake) -> Result<Woken, NoMemory>
+        requires { IsMesh V.behaviour V.settled self.old }
+        ensures { IfOk result (λ woken. Rounds V.behaviour awake self.old self.new woken.moved) }
+    {
+        let ran = self.run_each(alloc, awake)?;
+        let carried = self.carry_each(awake)?;
+        Ok(ran.and(carried))
+    }
+
+    fn run_each(&mut self, alloc: Global, awake: Awake) -> Result<Woken, NoMemory>
+        requires { IsMesh V.behaviour V.settled self.old }
+        ensures { IfOk result (λ woken. RunsEach V.behaviour awake (length self.old.runners) self.old self.new woken.moved) }
+    {
+        let components = self.runners.len();
+        let mut woken = Woken::none();
+        'components: for component in 0..components {
+            let moved = self.run_on(alloc, awake, component)?;
+            woken = woken.after(moved, component);
+        }
+        Ok(woken)
+    }
+
+    /// Processes the events of a component for as long as they may be processed. Tells whether there were any.
+    fn run_on(&mut self, alloc: Global, awake: Awake, component: usize) -> Result<bool, NoMemory>
+        requires { IsMesh V.behaviour V.settled self.old }
+        ensures { IfOk result (RunsOn V.behaviour awake component self.old self.new) }
+    {
+        if component >= self.runners.len() {
+            return Ok(false);
+        }
+        if !awake.includes(component) {
+            return Ok(false);
+        }
+        let ran = self.runners[component].events(alloc, u64::MAX)?;
+        Ok(ran > 0)
+    }
+
+    fn carry_each(&mut self, awake: Awake) -> Result<Woken, NoMemory>
+        requires { IsMesh V.behaviour V.settled self.old }
+        ensures { IfOk result (λ woken. CarriesEach V.behaviour awake (length self.old.ways) self.old self.new woken.moved) }
+    {
+        let channels = self.ways.len();
+        let mut woken = Woken::none();
+        'channels: for channel in 0..channels {
+            woken = self.carry(awake, channel, woken)?;
+        }
+        Ok(woken)
+    }
+
+    /// Sends the first message that waits on a channel, and receives the first that is in its queue.
+    fn carry(&mut self, awake: Awake, channel: usize, woken: Woken) -> Result<Woken, NoMemory>
+        requires { IsMesh V.behaviour V.settled self.old }
+        ensures { IfOk result (λ then. (moved : Bool) × Carries V.behaviour awake channel self.old self.new moved × (then.moved ≡ woken.moved || moved)) }
+    {
+        if channel >= self.ways.len() {
+            return Ok(woken);
+        }
+        let way = self.ways[channel];
+        if !awake.touches(way) {
+            return Ok(woken);
+        }
+        let sent = self.send(channel);
+        let got = self.poll(channel)?;
+        Ok(woken.along(sent, way).along(got, way))
     }
 
     /// Whether all components have ended.
