@@ -13,3 +13,6 @@ pub use laws::{
     a_turn_keeps_its_plans, a_turn_tries_each_end_once,
 };
 pub use turn::{Turn, Why};
+
+#[cfg(test)]
+mod tests;
