@@ -1,0 +1,5 @@
+pub mod Comparing
+pub mod Turns
+pub mod Sending
+pub mod Receiving
+pub mod Filled
