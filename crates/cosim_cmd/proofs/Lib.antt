@@ -3,7 +3,10 @@ pub mod WordKinds
 pub mod ClapWords
 pub mod ChannelNumbers
 pub mod StatsWords
+pub mod PairWords
 pub mod LogTimes
+pub mod MeshLogs
 pub mod Reading
+pub mod ReplayReading
 pub mod TooLong
 pub mod Accepting

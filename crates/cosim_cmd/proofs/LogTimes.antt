@@ -5,7 +5,7 @@ use Rattle.std.proofs.lemmas.List.Elements.{All-append, All-map, All-set}
 use Rattle.std.proofs.lemmas.List.{length-map}
 use Rattle.std.proofs.lemmas.Option.{slice_get_within, get_or_from_slice_get}
 use Rattle.device_api.specs.declared.logs.Line.{Line}
-use Rattle.device_api.specs.World.{World, Run, Network, start_run, after, logged_at, react, arrivals_for, turn_of, slot, global_until, logs_of}
+use Rattle.device_api.specs.World.{World, Run, Network, start_run, after, logged_at, react, arrivals_for, turn_of, slot, global_until, log_in, log_of, logs_of}
 use Rattle.run_laws.proofs.RunCounts.{run_count}
 use Rattle.log_join.specs.Before.{IsBefore, AreBefore}
 
@@ -40,6 +40,15 @@ module _ {S : Type 0} (net : Network S) where
 
   pub logs_of-before : (t : ℕ) → AreBefore t (logs_of (global_until net t))
   logs_of-before t = All-map (IsBefore t) (λ (run : Run S). run.log) (global_until net t).runs (global_until-before t)
+
+  log_in-before : (t c : ℕ) (found : Option (Run S)) → slice_get (global_until net t).runs c ≡ found → IsBefore t (log_in found)
+  log_in-before t c None at = λ k d within. absurd (omega (arith, within))
+  log_in-before t c (Some run) at =
+      let runs = (global_until net t).runs in
+      subst (λ (r : Run S). IsBefore t r.log) (get_or_from_slice_get runs c run run at) (global_until-before t c run (slice_get_within runs c run at))
+
+  pub log_of-before : (t c : ℕ) → IsBefore t (log_of c (global_until net t))
+  log_of-before t c = log_in-before t c (slice_get (global_until net t).runs c) refl
 
   -- there is one log for each component
   pub length-logs_of : (t : ℕ) → length (logs_of (global_until net t)) ≡ length net.starts

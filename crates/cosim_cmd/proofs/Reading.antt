@@ -20,10 +20,11 @@ use Rattle.cosim_cmd.specs.declared.words.Sentence.{Sentence as Read}
 use Rattle.cosim_cmd.specs.Said.{said}
 use Rattle.cosim_cmd.specs.Check.{IsChecked}
 use Rattle.cosim_cmd.specs.Asm.{IsAssembled}
-use Rattle.cosim_cmd.specs.Sentence.{Text, Sentence, Check, Model, Asm, file_of}
-use Rattle.cosim_cmd.specs.Inputs.{Inputs, AreFurther, AsksNothing, AsksFor, AsksAtMost, AsksBeginning, IsReadAs, IsUnreadAs, AreTold, AreRead, IsOneUnread, AsksAtMostInOrder, last_of}
-use Rattle.cosim_cmd.specs.Model.{OfImages, IsModelled, IsLogged, IsTooLong, IsModelBad, AsksForImages}
-use Rattle.cosim_cmd.specs.Outputs.{IsOutput, LacksHostRoom}
+use Rattle.cosim_cmd.specs.Sentence.{Text, Sentence, Check, Model, Replay, Asm, file_of}
+use Rattle.cosim_cmd.specs.Inputs.{Inputs, AreFurther, AreImages, AreImagesAnd, AsksNothing, AsksFor, AsksAtMost, AsksBeginning, AsksIfAny, IsReadAs, IsUnreadAs, AreTold, AreRead, OfRead, IsOneUnread, AsksAtMostInOrder, last_of}
+use Rattle.cosim_cmd.specs.Model.{IsModelled, IsLogged, IsTooLong, IsModelBad}
+use Rattle.cosim_cmd.specs.Replay.{IsReplay, IsReplayBad}
+use Rattle.cosim_cmd.specs.Outputs.{IsOutput, LacksStep}
 use Rattle.cosim_cmd.specs.Local.{OfRest, OfInputs, Lacks, AsksFurther, IsOutputBad}
 
 -- names asked for, and then others
@@ -104,13 +105,13 @@ module _ (s : Sentence) (before mid after : FilesSeen) (bytes : List ℕ) (kept 
 
   pub of_inputs : (P : Inputs → Type 0) → OfRest (record { sentence = s; bytes = bytes }) mid after P → OfInputs s before after P
   of_inputs P rest = record {
-    inputs = record { text = bytes; more = rest.more };
+    inputs = record { text = bytes; more = rest.contents };
     read = record {
       names = rest.names;
-      are_further = rest.are_further;
+      are_further = rest.are_names;
       read = record {
         asked = AsksFor-more (file_of s ∷ []) rest.names before mid after read.asked rest.read.asked;
-        told = (read.told, AreTold-along before mid kept rest.names rest.more rest.read.told);
+        told = (read.told, AreTold-along before mid kept rest.names rest.contents rest.read.told);
       };
     };
     fact = rest.fact;
@@ -123,21 +124,33 @@ module _ (s : Sentence) (before mid after : FilesSeen) (bytes : List ℕ) (kept 
       record {
         in_order = record {
           more = one.earlier ++ one.name ∷ [];
-          next = inr (record { bytes = bytes; told = read.told; further = lacking.names; are_further = lacking.are_further; beginning = one.beginning });
+          next = inr (record { bytes = bytes; told = read.told; further = lacking.names; are_further = lacking.are_names; beginning = one.beginning });
           asked = AsksFor-more (file_of s ∷ []) (one.earlier ++ one.name ∷ []) before mid after read.asked one.asked;
         };
         failed = subst (λ n. Rose n after.faults) no_fault one.failed;
         named = one.named ∙ ap file_line (sym (last_of-push (file_of s) one.earlier one.name));
       }
   lacks (bad.Topology line) lacking = record { bytes = bytes; read = read_alone lacking.1; fact = lacking.0 }
-  lacks (bad.Image line) lacking = of_inputs (λ inputs. LacksHostRoom s inputs line) lacking
+  lacks (bad.NotBuilt line) lacking = record { bytes = bytes; read = read_alone lacking.1; fact = lacking.0 }
+  lacks (bad.Image line) lacking = record {
+    bytes = bytes;
+    names = lacking.names;
+    are_images = lacking.are_names;
+    images = lacking.contents;
+    read = record {
+      asked = AsksFor-more (file_of s ∷ []) lacking.names before mid after read.asked lacking.read.asked;
+      told = (read.told, AreTold-along before mid kept lacking.names lacking.contents lacking.read.told);
+    };
+    fact = lacking.fact;
+  }
+  lacks (bad.Schedule line) lacking = of_inputs (λ inputs. LacksStep s inputs line) lacking
   lacks (bad.Asm line) lacking = record { bytes = bytes; read = read_alone lacking.1; fact = lacking.0 }
 
   pub asks : AsksFurther (record { sentence = s; bytes = bytes }) mid after → AsksAtMostInOrder s before after
   asks (inl none) = inr (record { more = []; next = inl refl; asked = AsksFor-still (file_of s ∷ []) before mid after read.asked none })
   asks (inr some) = inr (record {
     more = some.asked.some;
-    next = inr (record { bytes = bytes; told = read.told; further = some.names; are_further = some.are_further; beginning = some.asked.beginning });
+    next = inr (record { bytes = bytes; told = read.told; further = some.names; are_further = some.are_names; beginning = some.asked.beginning });
     asked = AsksFor-more (file_of s ∷ []) some.asked.some before mid after read.asked some.asked.asked;
   })
 
@@ -154,7 +167,7 @@ module _ (s : Sentence) (before after : FilesSeen) where
 -- ---- the arms of the commands
 
 pub alone : (s : Sentence) (bytes : List ℕ) (seen : FilesSeen) (P : Inputs → Type 0) → AreFurther s bytes [] → P (record { text = bytes; more = [] }) → OfRest (record { sentence = s; bytes = bytes }) seen seen P
-alone s bytes seen P none fact = record { names = []; are_further = none; more = []; read = record { asked = AsksFor-none seen seen refl; told = tt }; fact = fact }
+alone s bytes seen P none fact = record { names = []; are_names = none; contents = []; read = record { asked = AsksFor-none seen seen refl; told = tt }; fact = fact }
 
 pub check_made : (r : Read) (bytes : List ℕ) (seen : FilesSeen) (text : List ℕ) (file : Text) → said r ≡ Check file → IsChecked bytes text → OfRest (record { sentence = said r; bytes = bytes }) seen seen (λ inputs. IsOutput (said r) inputs text)
 check_made r bytes seen text file is fact =
@@ -165,27 +178,33 @@ asm_made r bytes seen text file is fact =
     subst (λ s. OfRest (record { sentence = s; bytes = bytes }) seen seen (λ inputs. IsOutput s inputs text)) (sym is) (alone (Asm file) bytes seen (λ inputs. IsOutput (Asm file) inputs text) refl fact)
 
 module _ (file : Text) (stats : Bool) (bytes : List ℕ) (before after : FilesSeen) where
-  pub model_made : (text : List ℕ) → OfImages bytes before after (λ images. IsModelled stats bytes images text) → OfRest (record { sentence = Model file stats; bytes = bytes }) before after (λ inputs. IsOutput (Model file stats) inputs text)
-  model_made text of = record { names = of.names; are_further = of.are_images; more = of.images; read = of.read; fact = of.fact }
-
   pub model_lacks : (bad : ModelBad) → IsModelBad bytes before after bad → Lacks (record { sentence = Model file stats; bytes = bytes }) before after (of_model bad)
   model_lacks model.NoMemory why = tt
   model_lacks (model.Topology line) why = why
-  model_lacks (model.File line) why = record { names = why.names; are_further = why.are_images; unread = why.unread }
-  model_lacks (model.Image line) why = record { names = why.names; are_further = why.are_images; more = why.images; read = why.read; fact = why.fact }
+  model_lacks (model.File line) why = why
+  model_lacks (model.Image line) why = why
 
-  pub model_asks : AsksForImages bytes before after → AsksFurther (record { sentence = Model file stats; bytes = bytes }) before after
-  model_asks (inl none) = inl none
-  model_asks (inr some) = inr (record { names = some.names; are_further = some.are_images; asked = some.asked })
+module _ (file schedule : Text) (bytes : List ℕ) (before after : FilesSeen) where
+  pub replay_lacks : (bad : OutputBad) → IsReplayBad bytes schedule before after bad → Lacks (record { sentence = Replay file schedule; bytes = bytes }) before after bad
+  replay_lacks bad.NoMemory why = tt
+  replay_lacks (bad.File line) why = why
+  replay_lacks (bad.Topology line) why = why
+  replay_lacks (bad.NotBuilt line) why = why
+  replay_lacks (bad.Image line) why = why
+  replay_lacks (bad.Schedule line) why = why
+  replay_lacks (bad.Asm line) why = absurd why
 
 -- ---- the programs of hosts
 
 module _ (bytes : List ℕ) (t : Topology) (spelled : IsTopologyText bytes t) (names : List Text) (are : names ≡ image_names t.components) (before after : FilesSeen) where
-  pub images_modelled : (stats : Bool) (images : List (List ℕ)) → AreRead names before after images → (text : List ℕ) → IsLogged stats t images text → OfImages bytes before after (λ images. IsModelled stats bytes images text)
+  images_named : AreImages bytes names
+  images_named = record { topology = t; spelled = spelled; are_images = are }
+
+  pub images_modelled : (stats : Bool) (images : List (List ℕ)) → AreRead names before after images → (text : List ℕ) → IsLogged stats t images text → OfRead (AreImages bytes) before after (λ images. IsModelled stats bytes images text)
   images_modelled stats images read text logged = record {
     names = names;
-    are_images = record { topology = t; spelled = spelled; are_images = are };
-    images = images;
+    are_names = images_named;
+    contents = images;
     read = read;
     fact = record { topology = t; spelled = spelled; fact = logged };
   }
@@ -193,16 +212,16 @@ module _ (bytes : List ℕ) (t : Topology) (spelled : IsTopologyText bytes t) (n
   pub images_long : (images : List (List ℕ)) → AreRead names before after images → (fault : Fault) → IsFault (IsTooLong t images) fault → IsModelBad bytes before after (of_image fault)
   images_long images read (fault.Line line) is = record {
     names = names;
-    are_images = record { topology = t; spelled = spelled; are_images = are };
-    images = images;
+    are_names = images_named;
+    contents = images;
     read = read;
     fact = record { topology = t; spelled = spelled; fact = is };
   }
   images_long images read fault.NoMemory is = tt
 
   pub images_unread : (fault : Fault) → IsFault (IsOneUnread names before after) fault → IsModelBad bytes before after (unread_image fault)
-  images_unread (fault.Line line) is = record { names = names; are_images = record { topology = t; spelled = spelled; are_images = are }; unread = is }
+  images_unread (fault.Line line) is = record { names = names; are_names = images_named; unread = is }
   images_unread fault.NoMemory is = tt
 
-  pub images_asked : AsksBeginning names before after → AsksForImages bytes before after
-  images_asked asked = inr (record { names = names; are_images = record { topology = t; spelled = spelled; are_images = are }; asked = asked })
+  pub images_asked : AsksBeginning names before after → AsksIfAny (AreImages bytes) before after
+  images_asked asked = inr (record { names = names; are_names = images_named; asked = asked })

@@ -5,7 +5,7 @@ use Rattle.cs_base.specs.Outside.{FilesSeen, IsTold, Rose}
 use Rattle.topology_file.specs.declared.topology.Topology.{Topology}
 use Rattle.topology_file.specs.Reading.{IsTopologyText}
 use Rattle.device_set.specs.Images.{image_names}
-use Rattle.cosim_cmd.specs.Sentence.{Text, Sentence, Check, Model, Asm, sentence_of, file_of}
+use Rattle.cosim_cmd.specs.Sentence.{Text, Sentence, Check, Model, Replay, Asm, sentence_of, file_of}
 use Rattle.cosim_cmd.specs.Lines.{file_line}
 
 -- the bytes of the command's file, and of the files that it reads after that one, in order
@@ -19,10 +19,17 @@ pub record AreImages (bytes : List ℕ) (names : List Text) : Type 0 where
   pub spelled : IsTopologyText bytes topology
   pub are_images : names ≡ image_names topology.components
 
+-- the names of the programs of a topology text's hosts, and behind them that of a schedule
+pub record AreImagesAnd (bytes : List ℕ) (schedule : Text) (names : List Text) : Type 0 where
+  pub images : List Text
+  pub are_images : AreImages bytes images
+  pub behind : names ≡ images ++ schedule ∷ []
+
 -- the names of the files that a command reads after its own, which holds these bytes
 abbrev pub AreFurther : Sentence → List ℕ → List Text → Type 0
 AreFurther (Check file) bytes names = names ≡ []
 AreFurther (Model file stats) bytes names = AreImages bytes names
+AreFurther (Replay file schedule) bytes names = AreImagesAnd bytes schedule names
 AreFurther (Asm file) bytes names = names ≡ []
 
 -- the words are a sentence, and of it a fact holds
@@ -64,6 +71,12 @@ pub record IsUnreadAs (name : Text) (before after : FilesSeen) (line : List ℕ)
   pub failed : Rose before.faults after.faults
   pub named : line ≡ file_line name
 
+-- a file was read, and of its bytes a fact holds
+pub record OfOneRead (name : Text) (before after : FilesSeen) (P : List ℕ → Type 0) : Type 0 where
+  pub bytes : List ℕ
+  pub read : IsReadAs name before after bytes
+  pub fact : P bytes
+
 -- what is told of each of these names is the bytes beside it
 abbrev pub AreTold : FilesSeen → List Text → List (List ℕ) → Type 0
 AreTold files names contents = AllZip (λ name bytes. IsTold (files.held name) bytes) names contents
@@ -81,6 +94,31 @@ pub record IsOneUnread (names : List Text) (before after : FilesSeen) (line : Li
   pub asked : AsksFor (earlier ++ name ∷ []) before after
   pub failed : Rose before.faults after.faults
   pub named : line ≡ file_line name
+
+-- ---- the files of names of which a fact holds
+
+-- they were read, in order, and of what they hold a fact holds
+pub record OfRead (AreNames : List Text → Type 0) (before after : FilesSeen) (P : List (List ℕ) → Type 0) : Type 0 where
+  pub names : List Text
+  pub are_names : AreNames names
+  pub contents : List (List ℕ)
+  pub read : AreRead names before after contents
+  pub fact : P contents
+
+-- one of them can't be read
+pub record IsUnreadOf (AreNames : List Text → Type 0) (before after : FilesSeen) (line : List ℕ) : Type 0 where
+  pub names : List Text
+  pub are_names : AreNames names
+  pub unread : IsOneUnread names before after line
+
+-- the first ones of them were asked for, if any
+pub record AsksForSome (AreNames : List Text → Type 0) (before after : FilesSeen) : Type 0 where
+  pub names : List Text
+  pub are_names : AreNames names
+  pub asked : AsksBeginning names before after
+
+abbrev pub AsksIfAny : (List Text → Type 0) → FilesSeen → FilesSeen → Type 0
+AsksIfAny AreNames before after = AsksNothing before after ⊎ AsksForSome AreNames before after
 
 -- ---- the files of a command
 

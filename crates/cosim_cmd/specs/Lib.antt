@@ -5,6 +5,7 @@ pub mod Written
 pub mod NoTopology
 pub mod Check
 pub mod Model
+pub mod Replay
 pub mod Asm
 pub mod Refusals
 pub mod Inputs

@@ -40,3 +40,11 @@ image_line name = codes "cosim: image " ++ name ++ 10 ∷ []
 -- about a line of an assembler's source
 abbrev pub asm_line : ℕ → AsmReason → List ℕ
 asm_line number reason = codes "cosim: asm " ++ decimal number ++ codes " " ++ asm_reason_text reason ++ 10 ∷ []
+
+-- about a link that the command can't serve
+abbrev pub not_built_line : ℕ → List ℕ
+not_built_line link = codes "cosim: not built link " ++ decimal link ++ 10 ∷ []
+
+-- about a line of a schedule
+abbrev pub schedule_line : ℕ → List ℕ
+schedule_line number = codes "cosim: schedule " ++ decimal number ++ 10 ∷ []

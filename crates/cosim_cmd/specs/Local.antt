@@ -1,5 +1,5 @@
 -- What a command has done where it is refused, and where it isn't.
-use Rattle.std.specs.Prelude.{ℕ, ◌≡◌, ◌⊎◌, List, Option, Some, None, ⊤}
+use Rattle.std.specs.Prelude.{ℕ, ◌≡◌, ◌∷◌, List, Option, Some, None, ⊤}
 use Rattle.std.specs.List.{AllZip}
 use Rattle.cs_base.specs.Outside.{FilesSeen, SinkSeen, Rose}
 use Rattle.cosim_cmd.specs.declared.refusal.OutputBad.{OutputBad}
@@ -7,8 +7,8 @@ use Rattle.cosim_cmd.specs.declared.refusal.OutputBad.TheVariants as bad
 use Rattle.cosim_cmd.specs.declared.refusal.Refusal.{Refusal}
 use Rattle.cosim_cmd.specs.declared.refusal.Refusal.TheVariants as refused
 use Rattle.cosim_cmd.specs.Sentence.{Text, Sentence, sentence_of, file_of}
-use Rattle.cosim_cmd.specs.Inputs.{Inputs, AreFurther, OfSentence, AsksNothing, AsksBeginning, IsReadAs, AreRead, IsOneUnread, HasRead, IsUnread}
-use Rattle.cosim_cmd.specs.Outputs.{IsOutput, LacksTopology, LacksHostRoom, LacksProgram, Accepts}
+use Rattle.cosim_cmd.specs.Inputs.{Inputs, AreImages, AreFurther, OfSentence, AsksNothing, AsksIfAny, OfOneRead, AreRead, OfRead, IsUnreadOf, HasRead, IsUnread}
+use Rattle.cosim_cmd.specs.Outputs.{IsOutput, LacksTopology, LacksService, LacksHostRoom, LacksStep, LacksProgram, Accepts}
 use Rattle.cosim_cmd.specs.Refusals.{status_of, line_of}
 use Rattle.cosim_cmd.specs.Written.{IsWhole, IsCut, IsAttempted}
 
@@ -18,36 +18,31 @@ pub record Task : Type 0 where
   pub sentence : Sentence
   pub bytes : List ℕ
 
--- the other files were read, and of what they hold a fact holds
-pub record OfRest (task : Task) (before after : FilesSeen) (P : Inputs → Type 0) : Type 0 where
-  pub names : List Text
-  pub are_further : AreFurther task.sentence task.bytes names
-  pub more : List (List ℕ)
-  pub read : AreRead names before after more
-  pub fact : P (record { text = task.bytes; more = more })
+-- the names of its other files
+abbrev pub further_of : Task → List Text → Type 0
+further_of task names = AreFurther task.sentence task.bytes names
 
--- one of the other files can't be read
-pub record IsFurtherUnread (task : Task) (before after : FilesSeen) (line : List ℕ) : Type 0 where
-  pub names : List Text
-  pub are_further : AreFurther task.sentence task.bytes names
-  pub unread : IsOneUnread names before after line
+-- the other files were read, and of what they hold a fact holds
+abbrev pub OfRest : Task → FilesSeen → FilesSeen → (Inputs → Type 0) → Type 0
+OfRest task before after P = OfRead (further_of task) before after (λ more. P (record { text = task.bytes; more = more }))
+
+-- the programs of hosts were read, and of them a fact holds
+abbrev pub OfPrograms : Task → FilesSeen → FilesSeen → (List (List ℕ) → Type 0) → Type 0
+OfPrograms task before after P = OfRead (AreImages task.bytes) before after P
 
 -- why there is no output
 abbrev pub Lacks : Task → FilesSeen → FilesSeen → OutputBad → Type 0
 Lacks task before after bad.NoMemory = ⊤
-Lacks task before after (bad.File line) = IsFurtherUnread task before after line
+Lacks task before after (bad.File line) = IsUnreadOf (further_of task) before after line
 Lacks task before after (bad.Topology line) = LacksTopology task.sentence task.bytes line × AsksNothing before after
-Lacks task before after (bad.Image line) = OfRest task before after (λ inputs. LacksHostRoom task.sentence inputs line)
+Lacks task before after (bad.NotBuilt line) = LacksService task.sentence task.bytes line × AsksNothing before after
+Lacks task before after (bad.Image line) = OfPrograms task before after (λ images. LacksHostRoom task.sentence task.bytes images line)
+Lacks task before after (bad.Schedule line) = OfRest task before after (λ inputs. LacksStep task.sentence inputs line)
 Lacks task before after (bad.Asm line) = LacksProgram task.sentence task.bytes line × AsksNothing before after
 
--- the first ones of the other files were asked for
-pub record AsksForSome (task : Task) (before after : FilesSeen) : Type 0 where
-  pub names : List Text
-  pub are_further : AreFurther task.sentence task.bytes names
-  pub asked : AsksBeginning names before after
-
+-- the first ones of the other files were asked for, if any
 abbrev pub AsksFurther : Task → FilesSeen → FilesSeen → Type 0
-AsksFurther task before after = AsksNothing before after ⊎ AsksForSome task before after
+AsksFurther task before after = AsksIfAny (further_of task) before after
 
 -- ---- a sentence
 
@@ -62,17 +57,26 @@ abbrev pub Makes : Sentence → FilesSeen → FilesSeen → List ℕ → Type 0
 Makes s before after text = OfInputs s before after (λ inputs. IsOutput s inputs text)
 
 -- the command's file was read, and of its bytes a fact holds
-pub record OfFile (s : Sentence) (before after : FilesSeen) (P : List ℕ → Type 0) : Type 0 where
+abbrev pub OfFile : Sentence → FilesSeen → FilesSeen → (List ℕ → Type 0) → Type 0
+OfFile s before after P = OfOneRead (file_of s) before after P
+
+-- the command's file and then the programs of hosts were read, and of both a fact holds
+pub record OfSystem (s : Sentence) (before after : FilesSeen) (P : List ℕ → List (List ℕ) → Type 0) : Type 0 where
   pub bytes : List ℕ
-  pub read : IsReadAs (file_of s) before after bytes
-  pub fact : P bytes
+  pub names : List Text
+  pub are_images : AreImages bytes names
+  pub images : List (List ℕ)
+  pub read : AreRead (file_of s ∷ names) before after (bytes ∷ images)
+  pub fact : P bytes images
 
 -- why a command has no output
 abbrev pub IsOutputBad : Sentence → FilesSeen → FilesSeen → OutputBad → Type 0
 IsOutputBad s before after bad.NoMemory = ⊤
 IsOutputBad s before after (bad.File line) = IsUnread s before after line
 IsOutputBad s before after (bad.Topology line) = OfFile s before after (λ bytes. LacksTopology s bytes line)
-IsOutputBad s before after (bad.Image line) = OfInputs s before after (λ inputs. LacksHostRoom s inputs line)
+IsOutputBad s before after (bad.NotBuilt line) = OfFile s before after (λ bytes. LacksService s bytes line)
+IsOutputBad s before after (bad.Image line) = OfSystem s before after (λ bytes images. LacksHostRoom s bytes images line)
+IsOutputBad s before after (bad.Schedule line) = OfInputs s before after (λ inputs. LacksStep s inputs line)
 IsOutputBad s before after (bad.Asm line) = OfFile s before after (λ bytes. LacksProgram s bytes line)
 
 -- the words are a sentence, and the text is its output

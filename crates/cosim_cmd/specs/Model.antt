@@ -1,5 +1,5 @@
 -- What `model` writes: the joined log of the global run of the topology that the file spells, and its statistics.
-use Rattle.std.specs.Prelude.{ℕ, ◌≡◌, ◌⊎◌, ◌++◌, if◌then◌else◌, Bool, List, slice_get, None, Some, ⊤}
+use Rattle.std.specs.Prelude.{ℕ, ◌≡◌, ◌++◌, if◌then◌else◌, Bool, List, slice_get, None, Some, ⊤}
 use Rattle.cs_base.specs.Outside.{FilesSeen}
 use Rattle.device_api.specs.World.{Network, global_until, logs_of}
 use Rattle.device_api.specs.GlobalCounts.{counts_of}
@@ -11,8 +11,8 @@ use Rattle.topology_file.specs.Ports.{names_of}
 use Rattle.topology_file.specs.Reading.{IsTopologyText}
 use Rattle.device_set.specs.declared.any_device.AnyDevice.{AnyDevice}
 use Rattle.device_set.specs.AnyKind.{any_device}
-use Rattle.device_set.specs.Starts.{starts_of, too_long}
-use Rattle.cosim_cmd.specs.Inputs.{AreImages, AsksNothing, AsksBeginning, AreRead, IsOneUnread}
+use Rattle.device_set.specs.Starts.{starts_of, too_long, AreStarted}
+use Rattle.cosim_cmd.specs.Inputs.{AreImages, AsksNothing, OfRead, IsUnreadOf}
 use Rattle.cosim_cmd.specs.Lines.{image_line}
 use Rattle.cosim_cmd.specs.NoTopology.{IsNoTopology}
 use Rattle.cosim_cmd.specs.declared.refusal.ModelBad.{ModelBad}
@@ -33,6 +33,11 @@ run_statistics t devices = statistics (names_of t.components) t.wiring.links (co
 -- the joined log, and where they are asked for, the statistics after it
 abbrev pub run_text : Bool → Topology → List AnyDevice → List ℕ
 run_text stats t devices = if stats then joined_log t devices ++ run_statistics t devices else joined_log t devices
+
+-- the programs fit their hosts, and these are the devices at their start
+pub record AreReady (t : Topology) (images : List (List ℕ)) (devices : List AnyDevice) : Type 0 where
+  pub fit : too_long t images ≡ None
+  pub started : AreStarted t images devices
 
 -- the programs fit their hosts, and the text is that of the run of the topology's devices from their start
 pub record IsLogged (stats : Bool) (t : Topology) (images : List (List ℕ)) (text : List ℕ) : Type 0 where
@@ -66,32 +71,9 @@ LacksRoom bytes images line = OfTopology bytes (λ t. IsTooLong t images line)
 
 -- ---- with the programs of hosts, which are read after the topology
 
--- the programs were read, and of them a fact holds
-pub record OfImages (bytes : List ℕ) (before after : FilesSeen) (P : List (List ℕ) → Type 0) : Type 0 where
-  pub names : List (List ℕ)
-  pub are_images : AreImages bytes names
-  pub images : List (List ℕ)
-  pub read : AreRead names before after images
-  pub fact : P images
-
--- a program can't be read
-pub record IsImageUnread (bytes : List ℕ) (before after : FilesSeen) (line : List ℕ) : Type 0 where
-  pub names : List (List ℕ)
-  pub are_images : AreImages bytes names
-  pub unread : IsOneUnread names before after line
-
 -- why the system of a text can't be run
 abbrev pub IsModelBad : List ℕ → FilesSeen → FilesSeen → ModelBad → Type 0
 IsModelBad bytes before after bad.NoMemory = ⊤
 IsModelBad bytes before after (bad.Topology line) = IsNoTopology bytes line × AsksNothing before after
-IsModelBad bytes before after (bad.File line) = IsImageUnread bytes before after line
-IsModelBad bytes before after (bad.Image line) = OfImages bytes before after (λ images. LacksRoom bytes images line)
-
--- the first ones of the programs were asked for, in order
-pub record AsksForSome (bytes : List ℕ) (before after : FilesSeen) : Type 0 where
-  pub names : List (List ℕ)
-  pub are_images : AreImages bytes names
-  pub asked : AsksBeginning names before after
-
-abbrev pub AsksForImages : List ℕ → FilesSeen → FilesSeen → Type 0
-AsksForImages bytes before after = AsksNothing before after ⊎ AsksForSome bytes before after
+IsModelBad bytes before after (bad.File line) = IsUnreadOf (AreImages bytes) before after line
+IsModelBad bytes before after (bad.Image line) = OfRead (AreImages bytes) before after (λ images. LacksRoom bytes images line)

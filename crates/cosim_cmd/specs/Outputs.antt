@@ -2,18 +2,20 @@
 use Rattle.std.specs.Prelude.{ℕ, ◌≡◌, List, None}
 use Rattle.topology_file.specs.declared.topology.Topology.{Topology}
 use Rattle.topology_file.specs.Reading.{IsTopologyText}
-use Rattle.cosim_cmd.specs.Sentence.{Sentence, Check, Model, Asm}
+use Rattle.cosim_cmd.specs.Sentence.{Sentence, Check, Model, Replay, Asm}
 use Rattle.cosim_cmd.specs.Inputs.{Inputs}
 use Rattle.cosim_cmd.specs.NoTopology.{IsNoTopology}
 use Rattle.device_set.specs.Starts.{too_long}
 use Rattle.cosim_cmd.specs.Check.{IsChecked}
 use Rattle.cosim_cmd.specs.Model.{OfTopology, IsModelled, LacksRoom}
+use Rattle.cosim_cmd.specs.Replay.{IsReplay, IsNotBuilt, LacksRoomOnQueues, IsScheduleRefused, CanReplay}
 use Rattle.cosim_cmd.specs.Asm.{IsAssembled, IsNoProgram}
 
 -- the output
 abbrev pub IsOutput : Sentence → Inputs → List ℕ → Type 0
 IsOutput (Check file) inputs text = IsChecked inputs.text text
 IsOutput (Model file stats) inputs text = IsModelled stats inputs.text inputs.more text
+IsOutput (Replay file schedule) inputs text = IsReplay inputs.text inputs.more text
 IsOutput (Asm file) inputs text = IsAssembled inputs.text text
 
 -- nothing is refused for this
@@ -24,6 +26,7 @@ Never line = ⊥
 abbrev pub LacksTopology : Sentence → List ℕ → List ℕ → Type 0
 LacksTopology (Check file) bytes line = IsNoTopology bytes line
 LacksTopology (Model file stats) bytes line = IsNoTopology bytes line
+LacksTopology (Replay file schedule) bytes line = IsNoTopology bytes line
 LacksTopology (Asm file) bytes line = Never line
 
 -- the bytes are no program, where the command reads one
@@ -31,14 +34,26 @@ abbrev pub LacksProgram : Sentence → List ℕ → List ℕ → Type 0
 LacksProgram (Asm file) bytes line = IsNoProgram bytes line
 LacksProgram _ bytes line = Never line
 
--- a program is too long for its host, where the command runs it
-abbrev pub LacksHostRoom : Sentence → Inputs → List ℕ → Type 0
-LacksHostRoom (Model file stats) inputs line = LacksRoom inputs.text inputs.more line
-LacksHostRoom _ inputs line = Never line
+-- the topology has what the command can't serve
+abbrev pub LacksService : Sentence → List ℕ → List ℕ → Type 0
+LacksService (Replay file schedule) bytes line = IsNotBuilt bytes line
+LacksService _ bytes line = Never line
 
--- what the command can take: a topology text, a topology text whose programs fit their hosts, or a source that is
--- assembled
+-- a program is too long for its host, where the command runs it
+abbrev pub LacksHostRoom : Sentence → List ℕ → List (List ℕ) → List ℕ → Type 0
+LacksHostRoom (Model file stats) bytes images line = LacksRoom bytes images line
+LacksHostRoom (Replay file schedule) bytes images line = LacksRoomOnQueues bytes images line
+LacksHostRoom _ bytes images line = Never line
+
+-- a line of the schedule is no step that is enabled in its turn
+abbrev pub LacksStep : Sentence → Inputs → List ℕ → Type 0
+LacksStep (Replay file schedule) inputs line = IsScheduleRefused inputs.text inputs.more line
+LacksStep _ inputs line = Never line
+
+-- what the command can take: a topology text, a topology text whose programs fit their hosts, with a schedule of steps
+-- that are enabled in their turn, or a source that is assembled
 abbrev pub Accepts : Sentence → Inputs → Type 0
 Accepts (Check file) inputs = (t : Topology) × IsTopologyText inputs.text t
 Accepts (Model file stats) inputs = OfTopology inputs.text (λ t. too_long t inputs.more ≡ None)
+Accepts (Replay file schedule) inputs = CanReplay inputs.text inputs.more
 Accepts (Asm file) inputs = (program : List ℕ) × IsAssembled inputs.text program

@@ -15,7 +15,9 @@ abbrev pub output_status : OutputBad → ℕ
 output_status bad.NoMemory = 1
 output_status (bad.File line) = 3
 output_status (bad.Topology line) = 4
+output_status (bad.NotBuilt line) = 20
 output_status (bad.Image line) = 5
+output_status (bad.Schedule line) = 10
 output_status (bad.Asm line) = 11
 
 abbrev pub status_of : Refusal → ℕ
@@ -29,7 +31,9 @@ abbrev pub output_line : OutputBad → List ℕ
 output_line bad.NoMemory = memory_line
 output_line (bad.File line) = line
 output_line (bad.Topology line) = line
+output_line (bad.NotBuilt line) = line
 output_line (bad.Image line) = line
+output_line (bad.Schedule line) = line
 output_line (bad.Asm line) = line
 
 abbrev pub line_of : Refusal → List ℕ
@@ -47,6 +51,15 @@ IsFault Line fault.NoMemory = ⊤
 abbrev pub unread_of : Fault → OutputBad
 unread_of (fault.Line line) = bad.File line
 unread_of fault.NoMemory = bad.NoMemory
+
+-- the refusal for a program that is too long, and for a schedule that can't be replayed
+abbrev pub too_long_of : Fault → OutputBad
+too_long_of (fault.Line line) = bad.Image line
+too_long_of fault.NoMemory = bad.NoMemory
+
+abbrev pub unplayed_of : Fault → OutputBad
+unplayed_of (fault.Line line) = bad.Schedule line
+unplayed_of fault.NoMemory = bad.NoMemory
 
 abbrev pub of_image : Fault → ModelBad
 of_image (fault.Line line) = model.Image line

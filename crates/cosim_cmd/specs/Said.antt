@@ -3,13 +3,14 @@ use Rattle.std.specs.Prelude.{true, codes, Some}
 use Rattle.clap.specs.Walk.{Rule}
 use Rattle.clap.specs.declared.builder.action.ArgAction.TheVariants.{SetTrue}
 use Rattle.clap.specs.Simple.{App, Shape, new_rule, new_app, with_rule, on_top}
-use Rattle.cosim_cmd.specs.Sentence.{Text, Sentence, Check, Model, Asm}
+use Rattle.cosim_cmd.specs.Sentence.{Text, Sentence, Check, Model, Replay, Asm}
 use Rattle.cosim_cmd.specs.declared.words.Sentence.{Sentence as Read}
 use Rattle.cosim_cmd.specs.declared.words.Sentence.TheVariants as read
 
 abbrev pub said : Read → Sentence
 said (read.Check file) = Check file.now
 said (read.Model file stats) = Model file.now stats
+said (read.Replay file schedule) = Replay file.now schedule.now
 said (read.Asm file) = Asm file.now
 
 -- one required file, and no options; the words are those after the command's name
@@ -18,6 +19,13 @@ file_rule = record (new_rule (codes "file")) { required = true }
 
 abbrev pub described : Text → App
 described name = with_rule (on_top (λ (s : Shape). record s { no_binary_name = true; disable_help_flag = true }) (new_app name)) file_rule
+
+-- a second required file
+abbrev pub schedule_rule : Rule
+schedule_rule = record (new_rule (codes "schedule")) { required = true }
+
+abbrev pub described_with_schedule : Text → App
+described_with_schedule name = with_rule (described name) schedule_rule
 
 -- the option --stats, which has no value
 abbrev pub stats_rule : Rule

@@ -32,9 +32,20 @@ single [] = None
 single (word ∷ []) = Some word
 single (word ∷ (other ∷ more)) = None
 
+-- the two words of a list of two
+abbrev pub pair : List Text → Option (Text × Text)
+pair [] = None
+pair (word ∷ []) = None
+pair (word ∷ (other ∷ [])) = Some (word, other)
+pair (word ∷ (other ∷ (third ∷ more))) = None
+
 -- the one positional word
 abbrev pub file_word : List Text → Option Text
 file_word words = option_and_then single (positionals words)
+
+-- the two positional words
+abbrev pub file_pair : List Text → Option (Text × Text)
+file_pair words = option_and_then pair (positionals words)
 
 -- ---- with an option that has no value
 
@@ -68,15 +79,18 @@ both (Some a) (Some b) = Some (a, b)
 abbrev pub file_and_stats : List Text → Option (Text × Bool)
 file_and_stats words = both (single (operands words)) (is_given (codes "--stats") (options words))
 
--- what the words say: a command and its file
+-- what the words say: a command and its files
 pub data Sentence : Type 0 where
   Check : Text → Sentence
   Model : (file : Text) (stats : Bool) → Sentence
+  Replay : (file schedule : Text) → Sentence
   Asm : Text → Sentence
 
+-- the file that is read first
 abbrev pub file_of : Sentence → Text
 file_of (Check file) = file
 file_of (Model file stats) = file
+file_of (Replay file schedule) = file
 file_of (Asm file) = file
 
 -- the first word is the command's name, and the words after it are the command's own
@@ -85,5 +99,6 @@ sentence_of [] = None
 sentence_of (command ∷ words) =
     if bytes_eq command (codes "check") then option_map Check (file_word words)
     else if bytes_eq command (codes "model") then option_map (λ p. Model p.0 p.1) (file_and_stats words)
+    else if bytes_eq command (codes "replay") then option_map (λ p. Replay p.0 p.1) (file_pair words)
     else if bytes_eq command (codes "asm") then option_map Asm (file_word words)
     else None

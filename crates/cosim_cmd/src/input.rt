@@ -33,6 +33,7 @@ pub fn contents<F: Files>(
     ensures refused { IfErr result (IsFault (IsOneUnread names.now (F.seen files.old) (F.seen files.new))) }
     ensures asked { AsksBeginning names.now (F.seen files.old) (F.seen files.new) }
     ensures files_kept { (F.seen files.new).held ≡ (F.seen files.old).held }
+    ensures no_fault { IfOk result (λ _. (F.seen files.new).faults ≡ (F.seen files.old).faults) }
 {
     let mut contents = Items::new(alloc);
     for name in names {

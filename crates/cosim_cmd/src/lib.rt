@@ -9,6 +9,7 @@ mod local;
 mod model;
 mod names;
 mod refusal;
+mod replay;
 mod report;
 mod topology_text;
 mod words;

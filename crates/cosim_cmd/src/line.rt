@@ -1,6 +1,6 @@
 //! The lines that say why a command is refused.
 ghost use Rattle.std.specs.Prelude.{◌≡◌, ◌++◌, IfOk, OnOk};
-ghost use Rattle.cosim_cmd.specs.Lines.{entry_text, file_line, toml_line, topology_line, image_line, asm_line};
+ghost use Rattle.cosim_cmd.specs.Lines.{entry_text, file_line, toml_line, topology_line, not_built_line, image_line, schedule_line, asm_line};
 
 use cs_base::{NoMemory, Octets, decimal};
 use rv32_asm::AsmReason;
@@ -54,6 +54,28 @@ pub fn toml_line(alloc: Global) -> Result<Octets, NoMemory>
 {
     let mut line = Octets::new(alloc);
     line.append(b"cosim: topology toml\n")?;
+    Ok(line)
+}
+
+/// About a link that the command can't serve.
+pub fn not_built_line(alloc: Global, link: u64) -> Result<Octets, NoMemory>
+    ensures { IfOk result (λ line. line ≡ not_built_line link) }
+{
+    let mut line = Octets::new(alloc);
+    line.append(b"cosim: not built link ")?;
+    decimal(link, &mut line)?;
+    line.append(b"\n")?;
+    Ok(line)
+}
+
+/// About a line of a schedule.
+pub fn schedule_line(alloc: Global, number: u64) -> Result<Octets, NoMemory>
+    ensures { IfOk result (λ line. line ≡ schedule_line number) }
+{
+    let mut line = Octets::new(alloc);
+    line.append(b"cosim: schedule ")?;
+    decimal(number, &mut line)?;
+    line.append(b"\n")?;
     Ok(line)
 }
 

@@ -4,14 +4,15 @@ ghost use Rattle.cosim_cmd.specs.Sentence.{texts, sentence_of};
 ghost use Rattle.cosim_cmd.specs.Said.{said};
 ghost use Rattle.cosim_cmd.specs.Inputs.{AsksForFiles, AsksAtMostInOrder};
 ghost use Rattle.cosim_cmd.specs.Outputs.{IsOutput};
-ghost use Rattle.cosim_cmd.specs.Refusals.{unread_of, of_model};
+ghost use Rattle.cosim_cmd.specs.Refusals.{of_model};
 ghost use Rattle.cosim_cmd.specs.Local.{Task, OfRest, Lacks, AsksFurther, Makes, IsOutputBad, IsOutputOf, IsRefusal, Writes, WritesInPart, Says, IsAccepted, Stays};
 
 use crate::asm::assembled;
 use crate::check::printed;
 use crate::input::content;
 use crate::model::modelled;
-use crate::refusal::{Fault, ModelBad, OutputBad, Refusal};
+use crate::refusal::{Fault, ModelBad, OutputBad, Refusal, unread};
+use crate::replay::replayed;
 use crate::report::report;
 use crate::words::Sentence;
 use crate::write::write_all;
@@ -56,21 +57,12 @@ fn made<F: Files>(
             Ok(text) => Ok(text),
             Err(bad) => Err(of_model(bad)),
         },
+        Sentence::Replay { schedule, .. } => replayed(alloc, bytes, schedule, files),
         Sentence::Asm { .. } => match assembled(alloc, bytes) {
             Ok(text) => Ok(text),
             Err(Fault::Line(line)) => Err(OutputBad::Asm(line)),
             Err(Fault::NoMemory) => Err(OutputBad::NoMemory),
         },
-    }
-}
-
-/// The refusal for a file that can't be read.
-fn unread(fault: Fault) -> OutputBad
-    ensures { result ≡ unread_of fault }
-{
-    match fault {
-        Fault::Line(line) => OutputBad::File(line),
-        Fault::NoMemory => OutputBad::NoMemory,
     }
 }
 
@@ -118,18 +110,23 @@ fn run<F: Files, K: Sink>(
 ///
 /// - 0: the output stands whole in `out`.
 /// - 1: memory is wanting, `cosim: no memory`.
-/// - 2: the words are no sentence, `cosim: usage`. The sentences are `check <file>`, `model <file> [--stats]`
-///   and `asm <file>`. A word that begins with `-` and isn't `-` alone is an option's, which stands anywhere, and
-///   once; after a word `--` each word is positional.
+/// - 2: the words are no sentence, `cosim: usage`. The sentences are `check <file>`, `model <file> [--stats]`,
+///   `replay <file> <schedule>` and `asm <file>`. A word that begins with `-` and isn't `-` alone is an option's, which
+///   stands anywhere, and once; after a word `--` each word is positional.
 /// - 3: the file can't be read, `cosim: file <name>`.
 /// - 4: the file is no topology, `cosim: topology toml` or `cosim: topology <reason> at <entry>`.
 /// - 5: the program of a host is longer than its RAM, `cosim: image <component>`.
 /// - 9: the output can't be written, `cosim: out`.
+/// - 10: `replay` has a schedule with a line that spells no step or one that isn't enabled in its turn,
+///   `cosim: schedule <line>`.
 /// - 11: `asm` has a source with a fault, `cosim: asm <line> <reason>`.
+/// - 20: `replay` has a topology with a link by proxy, `cosim: not built link <number>`.
 ///
 /// `check` writes the topology with every key of every entry, as a topology file; it needs nothing but the file.
 /// `model` writes the joined log of the run, and with `--stats` a line for each channel after it:
-/// `channel <k> <from> <to> syncs <n> sends <m>`. `asm` writes the bytes of an assembler's source.
+/// `channel <k> <from> <to> syncs <n> sends <m>`. `replay` takes the steps of a schedule, one by one, on components with
+/// clocks of their own, and writes the joined log so far and a line, `state ended` or `state running`. `asm` writes the
+/// bytes of an assembler's source.
 ///
 /// On each status but 0 and 9 nothing is written to `out`. A failing `err` leaves the status as it is.
 pub fn cosim_local<F: Files, K: Sink, E: Sink>(

@@ -1,7 +1,8 @@
 //! The command `model`: the joined log of the global simulator, and the statistics of its run.
 ghost use Rattle.std.specs.Prelude.{◌≡◌, ◌<◌, All, map, length, IfOk, IfErr};
 ghost use Rattle.device_set.specs.AnyKind.{any_device, IsSettledDevice};
-ghost use Rattle.cosim_cmd.specs.Model.{run_text, IsLogged, IsTooLong, IsHostLine, OfImages, IsModelled, IsModelBad, AsksForImages};
+ghost use Rattle.cosim_cmd.specs.Model.{run_text, AreReady, IsLogged, IsTooLong, IsHostLine, IsModelled, IsModelBad};
+ghost use Rattle.cosim_cmd.specs.Inputs.{AreImages, OfRead, AsksIfAny};
 ghost use Rattle.cosim_cmd.specs.Refusals.{IsFault, of_image, unread_image};
 
 use crate::input::contents;
@@ -49,6 +50,24 @@ fn host_line(alloc: Global, topology: &Topology, number: u32) -> Result<Octets, 
     image_line(alloc, host.name.as_slice())
 }
 
+/// The devices of a topology with these programs, at their start.
+pub fn started(
+    alloc: Global,
+    topology: &Topology,
+    images: Vec<Octets>,
+) -> Result<Vec<AnyDevice>, Fault>
+    ensures started { IfOk result (λ devices. AreReady topology.now images.items devices.items) }
+    ensures refused { IfErr result (IsFault (IsTooLong topology.now images.items)) }
+{
+    match start(alloc, topology, images) {
+        Ok(devices) => Ok(devices),
+        Err(StartBad::ImageTooLong { component }) => {
+            Err(Fault::Line(host_line(alloc, topology, component)?))
+        }
+        Err(StartBad::NoMemory) => Err(Fault::NoMemory),
+    }
+}
+
 /// The text of the run of a topology with these programs.
 fn logged(
     alloc: Global,
@@ -59,12 +78,9 @@ fn logged(
     ensures logged { IfOk result (IsLogged stats topology.now images.items) }
     ensures refused { IfErr result (IsFault (IsTooLong topology.now images.items)) }
 {
-    match start(alloc, topology, images) {
+    match started(alloc, topology, images) {
         Ok(devices) => Ok(run_text(alloc, stats, topology, devices)?),
-        Err(StartBad::ImageTooLong { component }) => {
-            Err(Fault::Line(host_line(alloc, topology, component)?))
-        }
-        Err(StartBad::NoMemory) => Err(Fault::NoMemory),
+        Err(fault) => Err(fault),
     }
 }
 
@@ -93,10 +109,11 @@ pub fn modelled<F: Files>(
     bytes: &[u8],
     files: &mut F,
 ) -> Result<Octets, ModelBad>
-    ensures modelled { IfOk result (λ text. OfImages bytes.now (F.seen files.old) (F.seen files.new)
+    ensures modelled { IfOk result (λ text.
+        OfRead (AreImages bytes.now) (F.seen files.old) (F.seen files.new)
         (λ images. IsModelled stats bytes.now images text)) }
     ensures refused { IfErr result (IsModelBad bytes.now (F.seen files.old) (F.seen files.new)) }
-    ensures asked { AsksForImages bytes.now (F.seen files.old) (F.seen files.new) }
+    ensures asked { AsksIfAny (AreImages bytes.now) (F.seen files.old) (F.seen files.new) }
     ensures files_kept { (F.seen files.new).held ≡ (F.seen files.old).held }
 {
     let topology = match topology(alloc, bytes) {

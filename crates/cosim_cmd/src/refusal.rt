@@ -1,4 +1,7 @@
 //! Why a command is refused. Where a line says more than which refusal it is, the refusal has the line.
+ghost use Rattle.std.specs.Prelude.{◌≡◌};
+ghost use Rattle.cosim_cmd.specs.Refusals.{unread_of, too_long_of, unplayed_of};
+
 use cs_base::{NoMemory, Octets};
 
 /// Why a text can't be taken, or a file can't be read.
@@ -54,8 +57,12 @@ pub enum OutputBad {
     File(Octets),
     /// The file is no topology.
     Topology(Octets),
+    /// The topology has a link that the command can't serve.
+    NotBuilt(Octets),
     /// The program of a host is longer than its RAM.
     Image(Octets),
+    /// A line of the schedule spells no step that is enabled in its turn.
+    Schedule(Octets),
     /// The source can't be assembled.
     Asm(Octets),
 }
@@ -103,5 +110,35 @@ impl From<OutputBad> for Refusal {
 
     fn from(bad: OutputBad) -> Refusal {
         Refusal::NoOutput(bad)
+    }
+}
+
+/// The refusal for a file that can't be read.
+pub fn unread(fault: Fault) -> OutputBad
+    ensures { result ≡ unread_of fault }
+{
+    match fault {
+        Fault::Line(line) => OutputBad::File(line),
+        Fault::NoMemory => OutputBad::NoMemory,
+    }
+}
+
+/// The refusal for a program that is too long.
+pub fn too_long(fault: Fault) -> OutputBad
+    ensures { result ≡ too_long_of fault }
+{
+    match fault {
+        Fault::Line(line) => OutputBad::Image(line),
+        Fault::NoMemory => OutputBad::NoMemory,
+    }
+}
+
+/// The refusal for a schedule that can't be replayed.
+pub fn unplayed(fault: Fault) -> OutputBad
+    ensures { result ≡ unplayed_of fault }
+{
+    match fault {
+        Fault::Line(line) => OutputBad::Schedule(line),
+        Fault::NoMemory => OutputBad::NoMemory,
     }
 }

@@ -24,7 +24,9 @@ impl OutputBad {
             OutputBad::NoMemory => 1,
             OutputBad::File(_) => 3,
             OutputBad::Topology(_) => 4,
+            OutputBad::NotBuilt(_) => 20,
             OutputBad::Image(_) => 5,
+            OutputBad::Schedule(_) => 10,
             OutputBad::Asm(_) => 11,
         }
     }
@@ -37,7 +39,9 @@ impl OutputBad {
             OutputBad::NoMemory => b"cosim: no memory\n",
             OutputBad::File(line)
             | OutputBad::Topology(line)
+            | OutputBad::NotBuilt(line)
             | OutputBad::Image(line)
+            | OutputBad::Schedule(line)
             | OutputBad::Asm(line) => line.as_slice(),
         }
     }

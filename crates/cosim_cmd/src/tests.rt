@@ -11,6 +11,7 @@ mod checking;
 mod failing;
 mod images;
 mod modelling;
+mod replaying;
 mod sentences;
 mod switching;
 

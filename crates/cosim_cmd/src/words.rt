@@ -1,8 +1,8 @@
 //! The words of the command line.
 ghost use Rattle.std.specs.Prelude.{◌≡◌, IfOk, option_copied, option_map};
 ghost use Rattle.clap.specs.Words.{app_of};
-ghost use Rattle.cosim_cmd.specs.Sentence.{texts, file_of, file_word, file_and_stats, sentence_of};
-ghost use Rattle.cosim_cmd.specs.Said.{said, described, described_with_stats};
+ghost use Rattle.cosim_cmd.specs.Sentence.{texts, file_of, file_word, file_pair, file_and_stats, sentence_of};
+ghost use Rattle.cosim_cmd.specs.Said.{said, described, described_with_schedule, described_with_stats};
 
 use clap::error::ErrorKind;
 use clap::{Arg, ArgAction, Command};
@@ -16,6 +16,8 @@ pub enum Sentence<'a> {
     Check { file: &'a str },
     /// `model <file> [--stats]`
     Model { file: &'a str, stats: bool },
+    /// `replay <file> <schedule>`
+    Replay { file: &'a str, schedule: &'a str },
     /// `asm <file>`
     Asm { file: &'a str },
 }
@@ -43,6 +45,39 @@ fn file_word<'a>(
     let command = with_file(alloc, name)?;
     match command.try_get_matches_from(words) {
         Ok(matches) => Ok(matches.get_str("file")),
+        Err(error) if error.kind() == ErrorKind::OutOfMemory => Err(NoMemory),
+        Err(_) => Ok(None),
+    }
+}
+
+/// A command with a file and a schedule, and no options. The words that it takes are those after its name.
+fn with_schedule<'a>(alloc: Global, name: &'a str) -> Result<Command<'a>, NoMemory>
+    ensures { IfOk result (λ command. app_of command ≡ described_with_schedule name.entry.now) }
+{
+    let schedule = Arg::new(alloc, "schedule").required(true);
+    Ok(with_file(alloc, name)?.arg(schedule)?)
+}
+
+/// The two files of a command with a file and a schedule, and no options; None where the words say something else.
+fn file_pair<'a>(
+    alloc: Global,
+    name: &'a str,
+    words: &'a [String],
+) -> Result<Option<(&'a str, &'a str)>, NoMemory>
+    ensures { IfOk result
+        (λ said. option_map (λ p. (p.0.now, p.1.now)) said ≡ file_pair (texts words.now)) }
+{
+    let command = with_schedule(alloc, name)?;
+    match command.try_get_matches_from(words) {
+        Ok(matches) => {
+            let Some(file) = matches.get_str("file") else {
+                return Ok(None);
+            };
+            let Some(schedule) = matches.get_str("schedule") else {
+                return Ok(None);
+            };
+            Ok(Some((file, schedule)))
+        }
         Err(error) if error.kind() == ErrorKind::OutOfMemory => Err(NoMemory),
         Err(_) => Ok(None),
     }
@@ -98,6 +133,10 @@ impl<'a> Sentence<'a> {
                 file,
                 stats,
             )| Sentence::Model { file, stats })),
+            "replay" => Ok(file_pair(alloc, "replay", words)?.map(|(
+                file,
+                schedule,
+            )| Sentence::Replay { file, schedule })),
             "asm" => Ok(file_word(alloc, "asm", words)?.map(|file| Sentence::Asm { file })),
             _ => Ok(None),
         }
@@ -108,8 +147,10 @@ impl<'a> Sentence<'a> {
         ensures { result.now ≡ file_of (said self.now) }
     {
         match *self {
-            Sentence::Check { file } | Sentence::Model { file, .. } | Sentence::Asm { file } =>
-                file,
+            Sentence::Check { file }
+            | Sentence::Model { file, .. }
+            | Sentence::Replay { file, .. }
+            | Sentence::Asm { file } => file,
         }
     }
 }

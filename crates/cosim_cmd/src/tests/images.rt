@@ -19,7 +19,7 @@ image = "p"
 const PROGRAM: &str =
     "li t0, 0x10000000\nli t1, 72\nsb t1, 0(t0)\nli t1, 10\nsb t1, 0(t0)\nli t1, 7\nsw t1, 4(t0)\n";
 
-fn file(alloc: Global, name: &str, content: &[u8]) -> Result<MemFile, Fail> {
+pub(super) fn file(alloc: Global, name: &str, content: &[u8]) -> Result<MemFile, Fail> {
     Ok(MemFile {
         name: Text::new(alloc, name)?,
         content: Octets::from_slice(alloc, content)?,

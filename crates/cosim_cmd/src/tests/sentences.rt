@@ -2,7 +2,7 @@
 use super::plain;
 use std::test::Fail;
 
-const NO_SENTENCES: [&[&str]; 13] = [
+const NO_SENTENCES: [&[&str]; 17] = [
     &[],
     &[""],
     &["model"],
@@ -13,6 +13,10 @@ const NO_SENTENCES: [&[&str]; 13] = [
     &["model", "a", "--help"],
     &["model", "-1"],
     &["model", "--", "a", "b"],
+    &["replay", "a"],
+    &["replay", "a", "b", "c"],
+    &["replay", "a", "--stats", "b"],
+    &["replay", "a", "b", "--", "c"],
     &["--help"],
     &["serial", "a"],
     &["run", "a", "--workers", "2"],
@@ -35,7 +39,7 @@ struct Named {
     line: &'static str,
 }
 
-const NAMED: [Named; 8] = [
+const NAMED: [Named; 10] = [
     Named {
         words: &["model", "a"],
         line: "cosim: file a\n",
@@ -47,6 +51,14 @@ const NAMED: [Named; 8] = [
     Named {
         words: &["asm", "a"],
         line: "cosim: file a\n",
+    },
+    Named {
+        words: &["replay", "a", "b"],
+        line: "cosim: file a\n",
+    },
+    Named {
+        words: &["replay", "--", "-a", "--"],
+        line: "cosim: file -a\n",
     },
     Named {
         words: &["model", "--stats", "a"],

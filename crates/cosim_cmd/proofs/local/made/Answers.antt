@@ -1,11 +1,14 @@
 use Rattle.std.proofs.Common.{◌≡◌, ap, sym, subst}
+use Rattle.std.specs.Prelude.{IfOk, IfErr}
+use Rattle.std.proofs.lemmas.Result.{IfErr-weaker}
 use Rattle.cosim_cmd.specs.declared.words.Sentence.{Sentence as Read}
 use Rattle.cosim_cmd.specs.declared.words.Sentence.TheVariants as read
 use Rattle.cosim_cmd.specs.declared.refusal.OutputBad.{OutputBad}
 use Rattle.cosim_cmd.specs.Said.{said}
-use Rattle.cosim_cmd.specs.Sentence.{Check, Asm}
-use Rattle.cosim_cmd.specs.Local.{Lacks}
-use Rattle.cosim_cmd.proofs.Reading.{check_made, asm_made, model_lacks}
+use Rattle.cosim_cmd.specs.Sentence.{Sentence, Check, Replay, Asm}
+use Rattle.cosim_cmd.specs.Outputs.{IsOutput}
+use Rattle.cosim_cmd.specs.Local.{OfRest, Lacks}
+use Rattle.cosim_cmd.proofs.Reading.{check_made, asm_made, model_lacks, replay_lacks}
 use Rattle.cosim_cmd.proofs.local.made.Goals as goal
 
 pub returns-in-Ok-clause-made : goal.returns-in-Ok-clause-made
@@ -32,3 +35,22 @@ returns-in-Err-clause-refused g c =
     let why = model_lacks c.in-Model.file.now c.in-Model.stats bytes before after c.in-Err.bad c.in-Err.ensures.refused in
     subst (λ (r : Read). Lacks (record { sentence = said r; bytes = bytes }) before after c.of_model.result) (sym c.in-Model.is)
     (subst (λ (bad : OutputBad). Lacks (record { sentence = said (read.Model c.in-Model.file c.in-Model.stats); bytes = bytes }) before after bad) (sym c.of_model.ensures) why)
+
+pub returns-in-Replay-clause-made : goal.returns-in-Replay-clause-made
+returns-in-Replay-clause-made g c =
+    let r = c.args.sentence.now in
+    let bytes = c.args.bytes.now in
+    let before = g.F.Files.seen c.args.files.now in
+    let after = g.F.Files.seen c.replayed.new.files in
+    let is : said r ≡ Replay c.in-Replay.file.now c.in-Replay.schedule.now = ap said c.in-Replay.is in
+    subst (λ (s : Sentence). IfOk c.replayed.result (λ text. OfRest (record { sentence = s; bytes = bytes }) before after (λ inputs. IsOutput s inputs text))) (sym is) c.replayed.ensures.replayed
+
+pub returns-in-Replay-clause-refused : goal.returns-in-Replay-clause-refused
+returns-in-Replay-clause-refused g c =
+    let r = c.args.sentence.now in
+    let bytes = c.args.bytes.now in
+    let before = g.F.Files.seen c.args.files.now in
+    let after = g.F.Files.seen c.replayed.new.files in
+    let is : said r ≡ Replay c.in-Replay.file.now c.in-Replay.schedule.now = ap said c.in-Replay.is in
+    subst (λ (s : Sentence). IfErr c.replayed.result (Lacks (record { sentence = s; bytes = bytes }) before after)) (sym is)
+    (IfErr-weaker c.replayed.result _ _ (replay_lacks c.in-Replay.file.now c.in-Replay.schedule.now bytes before after) c.replayed.ensures.refused)
