@@ -15,7 +15,8 @@ use Rattle.run_threads.specs.CrewOf.{IsCrewOf}
 use Rattle.run_threads.specs.Leaving.{IsLeft, AreDelivered, LeavesGlobalRun}
 
 -- what rounds did that met no fault
-abbrev pub AllWent : {V : Type 0} → Behaviour V → (V → ℕ → Type 0) → List (Work (Part V)) → List (Work (Part V)) → Type 0
+abbrev pub AllWent : {V : Type 0} → Behaviour V → (V → ℕ → Type 0) → List (Work (Part V))
+    → List (Work (Part V)) → Type 0
 AllWent b settled old new = AllWorked (PartDid b settled) PartFailed (PartFits b settled) old new
 
 -- the components of all parts have ended
@@ -23,12 +24,21 @@ abbrev pub HaveEnded : {V : Type 0} → Behaviour V → List (Work (Part V)) →
 HaveEnded {V} b workers = AllEnded (λ (part : Part V). HasEnded b part.driver.runner) workers
 
 -- whatever system a crew is of
-abbrev pub StaysCrew : {V : Type 0} → Behaviour V → (V → ℕ → Type 0) → List (Work (Part V)) → List (Work (Part V)) → Type 0
-StaysCrew {V} b settled old new = (starts : List V) (links : List Link) (end : ℕ) (names : List TableId) → IsCrewOf b settled starts links end names old → IsCrewOf b settled starts links end names new
+abbrev pub StaysCrew : {V : Type 0} → Behaviour V → (V → ℕ → Type 0) → List (Work (Part V))
+    → List (Work (Part V)) → Type 0
+StaysCrew {V} b settled old new = (starts : List V) (links : List Link) (end : ℕ)
+    (names : List TableId) → IsCrewOf b settled starts links end names old
+    → IsCrewOf b settled starts links end names new
 
 abbrev pub RoundsKeepIt : {V : Type 0} → Behaviour V → (V → ℕ → Type 0) → Type 0
-RoundsKeepIt {V} b settled = (old new : List (Work (Part V))) → AllWent b settled old new → AreSound (PartFits b settled) new → StaysCrew b settled old new
+RoundsKeepIt {V} b settled = (old new : List (Work (Part V))) → AllWent b settled old new
+    → AreSound (PartFits b settled) new → StaysCrew b settled old new
 
 -- what a crew leaves whose components have ended and whose channels have delivered
 abbrev pub LeavesRun : {V : Type 0} → Behaviour V → (V → ℕ → Type 0) → Type 0
-LeavesRun {V} b settled = (starts : List V) (links : List Link) (end : ℕ) (names : List TableId) (workers : List (Work (Part V))) → IsCrewOf b settled starts links end names workers → HaveEnded b workers → (logs : List (List Line)) (counts : List Count) (senders : List Sender) (receivers : List Receiver) → IsLeft (length starts) links workers logs counts senders receivers → AreDelivered links senders receivers → LeavesGlobalRun b starts links end logs counts senders
+LeavesRun {V} b settled = (starts : List V) (links : List Link) (end : ℕ) (names : List TableId)
+    (workers : List (Work (Part V))) → IsCrewOf b settled starts links end names workers
+    → HaveEnded b workers → (logs : List (List Line)) (counts : List Count)
+    (senders : List Sender) (receivers : List Receiver)
+    → IsLeft (length starts) links workers logs counts senders receivers
+    → AreDelivered links senders receivers → LeavesGlobalRun b starts links end logs counts senders

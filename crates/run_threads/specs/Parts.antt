@@ -44,13 +44,16 @@ rx_empties old new = Emptied old.seat new.seat
 
 -- its runner and its ends stand for the same lists by port, from some start
 abbrev pub PartFits : {V : Type 0} → Behaviour V → (V → ℕ → Type 0) → Part V → Type 0
-PartFits b settled part = IsFit b settled tx_kind tx_stands rx_kind rx_stands part.driver.runner part.driver.txs.items part.driver.rxs.items
+PartFits b settled part = IsFit b settled tx_kind tx_stands rx_kind rx_stands part.driver.runner
+    part.driver.txs.items part.driver.rxs.items
 
 abbrev pub PartStands : {V : Type 0} → Behaviour V → (V → ℕ → Type 0) → V → Part V → Type 0
-PartStands b settled start part = StandsFrom b settled tx_kind tx_stands rx_kind rx_stands start part.driver.runner part.driver.txs.items part.driver.rxs.items
+PartStands b settled start part = StandsFrom b settled tx_kind tx_stands rx_kind rx_stands start
+    part.driver.runner part.driver.txs.items part.driver.rxs.items
 
 -- it made one turn
-pub record PartDid {V : Type 0} (b : Behaviour V) (settled : V → ℕ → Type 0) (old new : Part V) : Type 0 where
+pub record PartDid {V : Type 0} (b : Behaviour V) (settled : V → ℕ → Type 0)
+    (old new : Part V) : Type 0 where
   pub component : new.component ≡ old.component
   pub departures : new.departures ≡ old.departures
   pub arrivals : new.arrivals ≡ old.arrivals
@@ -72,7 +75,8 @@ PartBroke old new bad = Failed tx_pushes tx_refuses rx_pops rx_empties
     old.driver.runner old.driver.txs.items old.driver.rxs.items
     new.driver.runner new.driver.txs.items new.driver.rxs.items bad
 
--- a turn met a fault: want of memory, or a wrong introduction on the channel that comes in at a port
+-- a turn met a fault: want of memory, or a wrong introduction on the channel that comes in at a
+-- port
 pub data PartFailed {V : Type 0} (old : Part V) : MeshBad → Part V → Type 0 where
   was_memory : (new : Part V) → PartBroke old new NoMemory → PartFailed old mesh_bad.NoMemory new
   was_introduction : (new : Part V) (port : ℕ) (found : Msg)

@@ -18,13 +18,16 @@ abbrev pub its_receiver : Named → Receiver
 its_receiver queue = new_receiver queue.name queue.kind
 
 -- the queues of the two channels of each link, as the links ask, and both sides of each, unused
-pub record AreNew (kinds : List (List PortKind)) (links : List Link) (queues : List Named) (producers : List Sender) (consumers : List Receiver) : Type 0 where
+pub record AreNew (kinds : List (List PortKind)) (links : List Link) (queues : List Named)
+    (producers : List Sender) (consumers : List Receiver) : Type 0 where
   pub queues_are : map as_empty queues ≡ queues_of kinds links
   pub producers_are : producers ≡ map its_sender queues
   pub consumers_are : consumers ≡ map its_receiver queues
 
 -- lists after one queue more, of so many slots and to a port of this kind
-pub record Added (slots : ℕ) (kind : PortKind) (queues : List Named) (producers : List Sender) (consumers : List Receiver) (queues' : List Named) (producers' : List Sender) (consumers' : List Receiver) : Type 0 where
+pub record Added (slots : ℕ) (kind : PortKind) (queues : List Named) (producers : List Sender)
+    (consumers : List Receiver) (queues' : List Named) (producers' : List Sender)
+    (consumers' : List Receiver) : Type 0 where
   pub queue : Named
   pub asked : as_empty queue ≡ record { kind = kind; slots = slots; held = [] }
   pub queues_are : queues' ≡ queues ++ queue ∷ []

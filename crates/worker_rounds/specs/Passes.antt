@@ -14,11 +14,13 @@ pub record AllFit {M : Type 0} (fits : M → Type 0) (members : List M) : Type 0
 -- each member made so many turns
 pub record EachWent {M : Type 0} (does : M → M → Type 0) (n : ℕ) (old new : List M) : Type 0 where
   pub as_many : length new ≡ length old
-  pub each : (k : ℕ) (d : M) → k < length old → Went does (slice_index_or old k d) n (slice_index_or new k d)
+  pub each : (k : ℕ) (d : M) → k < length old
+      → Went does (slice_index_or old k d) n (slice_index_or new k d)
 
 -- each member counts so many turns more
 pub record HaveCounted {M : Type 0} (turns : M → ℕ) (n : ℕ) (old new : List M) : Type 0 where
-  pub each : (k : ℕ) (d : M) → k < length old → turns (slice_index_or new k d) ≡ (turns (slice_index_or old k d) + n) % 2 ^ 64
+  pub each : (k : ℕ) (d : M) → k < length old
+      → turns (slice_index_or new k d) ≡ (turns (slice_index_or old k d) + n) % 2 ^ 64
 
 -- the latest 64 turns of each member, or more, moved nothing
 pub record AreStill {M : Type 0} (still : M → ℕ) (members : List M) : Type 0 where
@@ -31,11 +33,14 @@ pub record HaveEnded {M : Type 0} (ended : M → Type 0) (members : List M) : Ty
 -- of a pass, the members below k have made their turn
 pub record PassSoFar {M : Type 0} (does : M → M → Type 0) (k : ℕ) (old new : List M) : Type 0 where
   pub as_many : length new ≡ length old
-  pub done : (i : ℕ) (d : M) → i < k → i < length old → does (slice_index_or old i d) (slice_index_or new i d)
-  pub same : (i : ℕ) (d : M) → k ≤ i → i < length old → slice_index_or new i d ≡ slice_index_or old i d
+  pub done : (i : ℕ) (d : M) → i < k → i < length old
+      → does (slice_index_or old i d) (slice_index_or new i d)
+  pub same : (i : ℕ) (d : M) → k ≤ i → i < length old
+      → slice_index_or new i d ≡ slice_index_or old i d
 
 -- a pass ended at a member whose turn met a fault
-pub record PassFailed {M : Type 0} (does : M → M → Type 0) (fails : M → MeshBad → M → Type 0) (old new : List M) (fault : MeshBad) : Type 0 where
+pub record PassFailed {M : Type 0} (does : M → M → Type 0) (fails : M → MeshBad → M → Type 0)
+    (old new : List M) (fault : MeshBad) : Type 0 where
   pub place : ℕ
   pub mid : List M
   pub so_far : PassSoFar does place old mid

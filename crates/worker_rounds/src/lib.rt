@@ -11,3 +11,6 @@ pub use member::Member;
 pub use mesh_bad::MeshBad;
 pub use run::run_all;
 pub use worker::{RoundEnd, Worker};
+
+#[cfg(test)]
+mod tests;
