@@ -1,9 +1,8 @@
 -- Each step lowers by one what is to come, which is one number of the mesh alone, and 0 where all is processed and received.
-use Rattle.std.proofs.Common.{◌≡◌, ℕ, zero, suc, ◌+◌, ◌⊎◌, inl, inr, List, [], ◌∷◌, Some, slice_get, refl, sym, ap, ◌∙◌, arith}
-use Rattle.std.specs.Prelude.{◌↔◌}
+use Rattle.std.proofs.Common.{◌≡◌, ℕ, zero, suc, ◌+◌, ◌⊎◌, inl, inr, List, slice_get, refl, sym, ap, ◌∙◌, arith}
 use Rattle.cs_base.specs.declared.link.Link.{Link}
 use Rattle.device_api.specs.Behaviour.{Behaviour, IsLawful}
-use Rattle.device_api.specs.Channels.{Channel, channels}
+use Rattle.device_api.specs.Channels.{channels}
 use Rattle.global_model.specs.Step.{network}
 use Rattle.sync_laws.proofs.Changed.{get_mapped}
 use Rattle.sync_laws.proofs.Nothing.{nothing_left}

@@ -1,5 +1,5 @@
 -- Each step keeps a mesh one of its system, and lowers by one what is to come.
-use Rattle.std.proofs.Common.{◌≡◌, ℕ, ◌≤◌, Bool, true, false, cond, eqb, List, [], ◌∷◌, ◌++◌, map, Some, slice_get, refl, sym, ap, ◌∙◌, subst}
+use Rattle.std.proofs.Common.{◌≡◌, ℕ, ◌≤◌, Bool, true, false, eqb, List, [], ◌∷◌, ◌++◌, map, Some, slice_get, refl, sym, ap, ◌∙◌, subst}
 use Rattle.std.specs.Prelude.{slice_set}
 use Rattle.std.proofs.lemmas.Bool.{cond-true, cond-false, eqb-true, eqb-false, eq-eqb}
 use Rattle.std.proofs.lemmas.Option.{same_Some}
@@ -9,7 +9,6 @@ use Rattle.cs_base.specs.Plan.{same_end}
 use Rattle.sb_message.specs.declared.message.Msg.{Msg}
 use Rattle.device_api.specs.Behaviour.{Behaviour, IsLawful}
 use Rattle.device_api.specs.Channels.{Channel, channels}
-use Rattle.device_api.specs.World.{Network}
 use Rattle.global_model.specs.Step.{network}
 use Rattle.port_queue.specs.Plain.{Plain}
 use Rattle.run_laws.proofs.Channels.{test_same, test_differs}

@@ -1,5 +1,5 @@
 -- A round that moves something leaves fewer steps to come, and where no round can, all is over.
-use Rattle.std.proofs.Common.{◌≡◌, ℕ, ◌+◌, ◌<◌, ◌⊎◌, inl, inr, Bool, true, false, List, sym, ◌∙◌, subst, arith}
+use Rattle.std.proofs.Common.{◌≡◌, ℕ, ◌+◌, ◌<◌, ◌⊎◌, inl, inr, Bool, true, false, List, sym, subst, arith}
 use Rattle.cs_base.specs.declared.link.Link.{Link}
 use Rattle.device_api.specs.Behaviour.{Behaviour, IsLawful}
 use Rattle.mesh_core.specs.Laws.{CanStep}
@@ -10,7 +10,7 @@ use Rattle.mesh_core.specs.Walk.{Walk, IsLessBy, Went, WentToTheEnd, Rounds, is_
 use Rattle.mesh_core.specs.declared.serial.Awake.{Awake}
 use Rattle.mesh_core.proofs.Going.{step_or_over}
 use Rattle.mesh_core.proofs.Numbered.{number_of, number_is}
-use Rattle.mesh_core.proofs.Walked.{walk_falls, walk_mesh, walk_on}
+use Rattle.mesh_core.proofs.Walked.{walk_falls, walk_mesh}
 
 -- a number less, whatever stands beside it
 pub then_those : (n n' w : ℕ) → n' < n → n' + n' + 1 < n + n + w

@@ -15,7 +15,7 @@ use Rattle.sync_rule.specs.Events.EventsRan.{none_ran, one_more}
 use Rattle.mesh_core.specs.State.{State}
 use Rattle.mesh_core.specs.Steps.{Leads, Steps}
 use Rattle.mesh_core.specs.MeshOf.{IsMesh, IsMeshOf}
-use Rattle.mesh_core.specs.ToCome.{steps_to_come, IsOneLess, IsOver}
+use Rattle.mesh_core.specs.ToCome.{steps_to_come, IsOneLess}
 use Rattle.mesh_core.specs.Walk.{Walk, IsLessBy, WalksLowerIt, Went, RunsOn, Carries, RunsEach, CarriesEach, Rounds, IsRefusedIn, is_everyone}
 use Rattle.mesh_core.specs.Walk.Walk.{none_made, one_more as one_step}
 use Rattle.mesh_core.specs.declared.serial.Awake.{Awake}
