@@ -3,3 +3,4 @@ pub mod Kept
 pub mod Faults
 pub mod Crews
 pub mod Final
+pub mod SeatsTaken

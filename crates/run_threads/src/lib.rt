@@ -2,9 +2,12 @@
 #![tactic(auto)]
 
 pub mod crew;
+mod ends;
 pub mod laws;
+mod numbers;
 pub mod part;
 pub mod queues;
+mod seats;
 
 pub use crew::{Crew, run_mesh};
 pub use laws::{an_ended_crew_leaves_the_global_run, rounds_keep_a_crew_standing};
