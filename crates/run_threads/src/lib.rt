@@ -14,3 +14,6 @@ pub use laws::{an_ended_crew_leaves_the_global_run, rounds_keep_a_crew_standing}
 pub use part::Part;
 pub use queues::Queues;
 pub use worker_rounds::{MeshBad, RoundEnd, Worker};
+
+#[cfg(test)]
+mod tests;
