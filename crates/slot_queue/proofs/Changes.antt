@@ -12,9 +12,16 @@ use Rattle.atomic_table.proofs.Lists.{one_turn, set_here, set_else, at_longer}
 use Rattle.cs_base.specs.declared.port_kind.PortKind.{PortKind}
 use Rattle.sb_message.specs.declared.message.Msg.{Msg}
 use Rattle.sb_message.specs.Stream.{IsStream}
-use Rattle.slot_queue.specs.Words.{word_for, IsConsumers, IsProducers}
+use Rattle.slot_queue.specs.Words.{line_of, word_at, word_for, IsConsumers, IsProducers}
 use Rattle.slot_queue.specs.Rule.{Lists, IsVacant, IsUnderWay, OwnerWords}
 use Rattle.slot_queue.proofs.Places.{below, element, last_or_before, length-prefix, prefix_more, prefix_next, whole_prefix}
+
+-- the words of other places stay as they are
+other_word : (words : List ℕ) (i place word : ℕ) → place ≢ i → word_at (set words (line_of i) word) place ≡ word_at words place
+other_word words i place word apart = get_or-set_other words (line_of i) (line_of place) word 0 (λ e. apart (omega (arith, e)))
+
+in_line : (words : List ℕ) (place slots : ℕ) → length words ≡ line_of slots → place < slots → line_of place < length words
+in_line words place slots lines less = omega (arith, lines, less)
 
 -- the word of a message under way is the consumer's
 consumers_word : (m : Msg) → IsConsumers (word_for m)
@@ -24,22 +31,22 @@ module _ (kind : PortKind) (slots : ℕ) (words : List ℕ) (homes : List (maybe
   sent_place : length lists.sent < length lists.received + slots → IsVacant slots lists (length lists.sent % slots)
   sent_place room n from until e = let same : n ≡ length lists.sent = one_turn n (length lists.sent) slots (omega arith) (omega arith) (sym e) in omega arith
 
-  full_word : length lists.received + slots ≤ length lists.sent → IsConsumers (get_or words (length lists.sent % slots) 0)
+  full_word : length lists.received + slots ≤ length lists.sent → IsConsumers (word_at words (length lists.sent % slots))
   full_word full =
       let positive = q.some_place in
       let most = q.within in
       let m = element lists.sent (length lists.received) (omega arith) in
       let total : length lists.sent ≡ length lists.received + slots = omega arith in
       let place : length lists.received % slots ≡ length lists.sent % slots = sym (add-mod_right (length lists.received) slots) ∙ ap (λ k. k % slots) (sym total) in
-      let word : get_or words (length lists.received % slots) 0 ≡ word_for m.0 = q.words_between (length lists.received) m.0 (omega arith, m.1) in
-      subst IsConsumers (sym word ∙ ap (λ k. get_or words k 0) place) (consumers_word m.0)
+      let word : word_at words (length lists.received % slots) ≡ word_for m.0 = q.words_between (length lists.received) m.0 (omega arith, m.1) in
+      subst IsConsumers (sym word ∙ ap (word_at words) place) (consumers_word m.0)
 
   -- the producer's word at the place of the next message: there is room
-  pub has_room : IsProducers (get_or words (length lists.sent % slots) 0) → length lists.sent < length lists.received + slots
+  pub has_room : IsProducers (word_at words (length lists.sent % slots)) → length lists.sent < length lists.received + slots
   has_room word = dite (dec_le (length lists.received + slots) (length lists.sent)) (λ full. let w = full_word full in absurd (omega arith)) (λ room. omega arith)
 
   -- the consumer's word there: there is none
-  pub is_full : IsConsumers (get_or words (length lists.sent % slots) 0) → length lists.sent ≡ length lists.received + slots
+  pub is_full : IsConsumers (word_at words (length lists.sent % slots)) → length lists.sent ≡ length lists.received + slots
   is_full word =
       let most = q.within in
       let positive = q.some_place in
@@ -48,7 +55,7 @@ module _ (kind : PortKind) (slots : ℕ) (words : List ℕ) (homes : List (maybe
       absurd (omega arith))
 
   -- the consumer's word at the place of the next message to be received: there is one
-  pub has_message : IsConsumers (get_or words (length lists.received % slots) 0) → (m : Msg) × (get_elem? lists.sent (length lists.received) ≡ some m)
+  pub has_message : IsConsumers (word_at words (length lists.received % slots)) → (m : Msg) × (get_elem? lists.sent (length lists.received) ≡ some m)
   has_message word =
       let positive = q.some_place in
       dite (dec_le (length lists.sent) (length lists.received))
@@ -56,12 +63,12 @@ module _ (kind : PortKind) (slots : ℕ) (words : List ℕ) (homes : List (maybe
       (λ more. element lists.sent (length lists.received) (omega arith))
 
   -- the producer's word there: all that was sent has been received
-  pub is_empty : IsProducers (get_or words (length lists.received % slots) 0) → lists.received ≡ lists.sent
+  pub is_empty : IsProducers (word_at words (length lists.received % slots)) → lists.received ≡ lists.sent
   is_empty word =
       let most = length-prefix lists.received lists.sent q.in_order in
       let same : length lists.sent ≡ length lists.received = dite (dec_le (length lists.sent) (length lists.received)) (λ le. omega arith) (λ more.
       let m = element lists.sent (length lists.received) (omega arith) in
-      let full : get_or words (length lists.received % slots) 0 ≡ word_for m.0 = q.words_between (length lists.received) m.0 (omega arith, m.1) in
+      let full : word_at words (length lists.received % slots) ≡ word_for m.0 = q.words_between (length lists.received) m.0 (omega arith, m.1) in
       let w = subst IsConsumers (sym full) (consumers_word m.0) in
       absurd (omega arith)) in
       whole_prefix lists.received lists.sent q.in_order same
@@ -73,7 +80,7 @@ module _ (kind : PortKind) (slots : ℕ) (words : List ℕ) (homes : List (maybe
   pub opens_push : lists.filling ≡ false → length lists.sent < length lists.received + slots → OwnerWords kind slots words (set homes (length lists.sent % slots) none) (record lists { filling = true })
   opens_push idle room = record {
     some_place = q.some_place;
-    word_each = q.word_each;
+    line_each = q.line_each;
     slot_each = length-set homes (length lists.sent % slots) none ∙ q.slot_each;
     in_order = q.in_order;
     within = q.within;
@@ -87,29 +94,29 @@ module _ (kind : PortKind) (slots : ℕ) (words : List ℕ) (homes : List (maybe
   }
 
   -- the producer gives its slot to the consumer, with the message
-  pub sends : (m : Msg) → lists.filling ≡ true → IsStream kind (lists.sent ++ m ∷ []) → OwnerWords kind slots (set words (length lists.sent % slots) (word_for m)) (set homes (length lists.sent % slots) (some (Some m))) (record lists { sent = lists.sent ++ m ∷ []; filling = false })
+  pub sends : (m : Msg) → lists.filling ≡ true → IsStream kind (lists.sent ++ m ∷ []) → OwnerWords kind slots (set words (line_of (length lists.sent % slots)) (word_for m)) (set homes (length lists.sent % slots) (some (Some m))) (record lists { sent = lists.sent ++ m ∷ []; filling = false })
   sends m turn stream =
       let room = q.push_turn turn in
       let i : ℕ = length lists.sent % slots in
       let less : i < slots = mod-lt (length lists.sent) q.some_place in
       let longer : length (lists.sent ++ m ∷ []) ≡ length lists.sent + 1 = length-append lists.sent (m ∷ []) in
       let front : length lists.received ≤ length lists.sent = length-prefix lists.received lists.sent q.in_order in
-      let words_less : i < length words = subst (λ k. i < k) (sym q.word_each) less in
+      let words_less : line_of i < length words = in_line words i slots q.line_each less in
       let homes_less : i < length homes = subst (λ k. i < k) (sym q.slot_each) less in
       let apart : (n : ℕ) (k : Msg) → IsUnderWay lists n k → n % slots ≢ i = λ n k under e. sent_place room n under.0 (below lists.sent n k under.1) (sym e) in
       let vacant_still : (place : ℕ) → IsVacant slots (record lists { sent = lists.sent ++ m ∷ []; filling = false }) place → IsVacant slots lists place = λ place vacant n from until. vacant n from (omega arith) in
       let not_there : (place : ℕ) → IsVacant slots (record lists { sent = lists.sent ++ m ∷ []; filling = false }) place → place ≢ i = λ place vacant. vacant (length lists.sent) front (omega arith) in
       record {
         some_place = q.some_place;
-        word_each = length-set words i (word_for m) ∙ q.word_each;
+        line_each = length-set words (line_of i) (word_for m) ∙ q.line_each;
         slot_each = length-set homes i (some (Some m)) ∙ q.slot_each;
         in_order = prefix_more lists.received lists.sent (m ∷ []) q.in_order;
         within = omega arith;
         words_between = λ n k under. elim (last_or_before lists.sent m k n under.1) [
-          | inl at ↦ get_or-set_other words i (n % slots) (word_for m) 0 (apart n k (under.0, at)) ∙ q.words_between n k (under.0, at)
-          | inr new ↦ ap (λ e. get_or (set words i (word_for m)) (e % slots) 0) new.0 ∙ get_or-set_same words i (word_for m) 0 words_less ∙ ap word_for new.1
+          | inl at ↦ other_word words i (n % slots) (word_for m) (apart n k (under.0, at)) ∙ q.words_between n k (under.0, at)
+          | inr new ↦ ap (λ e. word_at (set words (line_of i) (word_for m)) (e % slots)) new.0 ∙ get_or-set_same words (line_of i) (word_for m) 0 words_less ∙ ap word_for new.1
         ];
-        words_other = λ place below_all vacant. subst IsProducers (sym (get_or-set_other words i place (word_for m) 0 (not_there place vacant))) (q.words_other place below_all (vacant_still place vacant));
+        words_other = λ place below_all vacant. subst IsProducers (sym (other_word words i place (word_for m) (not_there place vacant))) (q.words_other place below_all (vacant_still place vacant));
         slots_between = λ n k under noted. elim (last_or_before lists.sent m k n under.1) [
           | inl at ↦ set_else homes i (n % slots) (some (Some m)) (apart n k (under.0, at)) ∙ q.slots_between n k (under.0, at) noted
           | inr new ↦ ap (λ e. get_elem? (set homes i (some (Some m))) (e % slots)) new.0 ∙ set_here homes i (some (Some m)) homes_less ∙ ap (λ (x : Msg). some (some (Some x))) new.1
@@ -136,7 +143,7 @@ module _ (kind : PortKind) (slots : ℕ) (words : List ℕ) (homes : List (maybe
       let j : ℕ = length lists.received % slots in
       record {
         some_place = q.some_place;
-        word_each = q.word_each;
+        line_each = q.line_each;
         slot_each = length-set homes j none ∙ q.slot_each;
         in_order = q.in_order;
         within = q.within;
@@ -153,27 +160,27 @@ module _ (kind : PortKind) (slots : ℕ) (words : List ℕ) (homes : List (maybe
       }
 
   -- the consumer gives the slot back, empty
-  pub receives : (m : Msg) (word : ℕ) → lists.noted ≡ Some m → IsProducers word → OwnerWords kind slots (set words (length lists.received % slots) word) (set homes (length lists.received % slots) (some None)) (record lists { received = lists.received ++ m ∷ []; noted = None })
+  pub receives : (m : Msg) (word : ℕ) → lists.noted ≡ Some m → IsProducers word → OwnerWords kind slots (set words (line_of (length lists.received % slots)) word) (set homes (length lists.received % slots) (some None)) (record lists { received = lists.received ++ m ∷ []; noted = None })
   receives m word noted producers =
       let j : ℕ = length lists.received % slots in
       let at = q.pop_turn m noted in
       let less : j < slots = mod-lt (length lists.received) q.some_place in
       let longer : length (lists.received ++ m ∷ []) ≡ length lists.received + 1 = length-append lists.received (m ∷ []) in
-      let words_less : j < length words = subst (λ k. j < k) (sym q.word_each) less in
+      let words_less : line_of j < length words = in_line words j slots q.line_each less in
       let homes_less : j < length homes = subst (λ k. j < k) (sym q.slot_each) less in
       let most = q.within in
       let vacant_still : (place : ℕ) → place ≢ j → IsVacant slots (record lists { received = lists.received ++ m ∷ []; noted = None }) place → IsVacant slots lists place =
       λ place ne vacant n from until. dite (ℕ_discrete n (length lists.received)) (λ e. λ p. ne (p ∙ ap (λ k. k % slots) e)) (λ later. vacant n (omega arith) until) in
       record {
         some_place = q.some_place;
-        word_each = length-set words j word ∙ q.word_each;
+        line_each = length-set words (line_of j) word ∙ q.line_each;
         slot_each = length-set homes j (some None) ∙ q.slot_each;
         in_order = prefix_next lists.received lists.sent m q.in_order at;
         within = omega arith;
-        words_between = λ n k under. let from = under.0 in get_or-set_other words j (n % slots) word 0 (later_place n k (omega arith) under.1) ∙ q.words_between n k (omega arith, under.1);
+        words_between = λ n k under. let from = under.0 in other_word words j (n % slots) word (later_place n k (omega arith) under.1) ∙ q.words_between n k (omega arith, under.1);
         words_other = λ place below_all vacant. dite (ℕ_discrete place j)
-            (λ e. subst IsProducers (sym (ap (λ p. get_or (set words j word) p 0) e ∙ get_or-set_same words j word 0 words_less)) producers)
-            (λ ne. subst IsProducers (sym (get_or-set_other words j place word 0 ne)) (q.words_other place below_all (vacant_still place ne vacant)));
+            (λ e. subst IsProducers (sym (ap (word_at (set words (line_of j) word)) e ∙ get_or-set_same words (line_of j) word 0 words_less)) producers)
+            (λ ne. subst IsProducers (sym (other_word words j place word ne)) (q.words_other place below_all (vacant_still place ne vacant)));
         slots_between = λ n k under out. let from = under.0 in set_else homes j (n % slots) (some None) (later_place n k (omega arith) under.1) ∙ q.slots_between n k (omega arith, under.1) (λ e. absurd (omega arith));
         slots_other = λ place below_all vacant out. dite (ℕ_discrete place j)
             (λ e. ap (λ p. get_elem? (set homes j (some None)) p) e ∙ set_here homes j (some None) homes_less)

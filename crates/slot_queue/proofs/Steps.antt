@@ -1,7 +1,8 @@
 -- Each step of a seat keeps the rule.
 use Rattle.std.proofs.Common.{◌≡◌, ℕ, zero, suc, ◌+◌, ◌%◌, ◌^◌, ◌<◌, inr, inl, List, [], ◌∷◌, ◌++◌, map, length, get_or, set, replicate, ap, sym, refl, ◌∙◌, subst, arith}
+use Rattle.std.proofs.Math.Nat.{mul-div_cancel}
 use Rattle.std.proofs.lemmas.List.{set-get_or, get_or-replicate, length-map, length-replicate}
-use Rattle.std.specs.Prelude.{true, false, Some, None}
+use Rattle.std.specs.Prelude.{true, false, Option, Some, None}
 use mathlib.Core.Bool.{true≢false}
 use mathlib.Core.Option.{some, none, some-injective, some-ne-none}
 use mathlib.Core.List.{IsPrefix}
@@ -14,7 +15,7 @@ use Rattle.sb_message.specs.declared.message.Msg.{Msg}
 use Rattle.sb_message.specs.Stream.{IsStream}
 use Rattle.slot_queue.specs.declared.view.View.{View}
 use Rattle.slot_queue.specs.declared.view.Plan.{Plan}
-use Rattle.slot_queue.specs.Words.{word_for, IsConsumers, IsProducers}
+use Rattle.slot_queue.specs.Words.{line_of, place_of, word_at, word_for, IsConsumers, IsProducers}
 use Rattle.slot_queue.specs.Rule.{Lists, OwnerWords, Fits, Stands}
 use Rattle.slot_queue.specs.Views.{owning, producing, consuming, remembering, sending_part, taking_part, joined, missed}
 use Rattle.slot_queue.specs.Plays.{Seated, LooksForRoom, Sends, LooksForMessage, Receives}
@@ -23,19 +24,29 @@ use Rattle.port_queue.specs.Streams.{stream_so_far}
 use Rattle.slot_queue.proofs.Changes.{has_room, is_full, has_message, empty_slot, opens_push, sends, full_slot, opens_pop, receives}
 use Rattle.slot_queue.proofs.Seats.{after_sender, after_receiver, after_split, after_join, after_memory}
 
+-- the slot of the word that was looked at
+pub place_again : (place : ℕ) → place_of (line_of place) ≡ place
+place_again place = mul-div_cancel place (omega arith)
+
+abbrev pub with_slot : View → ℕ → Option Msg → Seated
+with_slot view place x = (view, (place, x) ∷ [])
+
+pub taken_at : (view : View) (place : ℕ) (x : Option Msg) → with_slot view place x ≡ with_slot view (place_of (line_of place)) x
+taken_at view place x = ap (λ (p : ℕ). with_slot view p x) (sym (place_again place))
+
 pub looks_for_room : (plan : Plan) (slots id : ℕ) (kind : PortKind) (sent : List Msg) (misses i : ℕ) → i ≡ length sent % slots
-    → Allows (Stands plan) slots id (producing kind sent false misses, []) i (λ n. n) (LooksForRoom (step slots i 0 0 none) (producing kind sent false misses, []))
+    → Allows (Stands plan) slots id (producing kind sent false misses, []) (line_of i) (λ n. n) (LooksForRoom (step slots (line_of i) 0 0 none) (producing kind sent false misses, []))
 looks_for_room plan slots id kind sent misses i place s stands len at less =
     let q = stands.queue in
     let lists : Lists = stands.lists in
     let told = (stands.seats id (producing kind sent false misses) at).sender refl in
     let slots_are : slots ≡ plan.slots = sym len ∙ q.slot_each in
     let there : i ≡ length lists.sent % plan.slots = place ∙ ap (λ l. length l % slots) told.1 ∙ ap (λ k. length lists.sent % k) slots_are in
-    let same : s.words ≡ set s.words i (get_or s.words i 0) = sym (set-get_or s.words i 0) in
+    let same : s.words ≡ set s.words (line_of i) (word_at s.words i) = sym (set-get_or s.words (line_of i) 0) in
     let idle : lists.filling ≡ false = sym told.2 in
-    dite (dec_le (2 ^ 63) (get_or s.words i 0))
+    dite (dec_le (2 ^ 63) (word_at s.words i))
     (λ taken.
-    let full = is_full plan.kind plan.slots s.words s.homes lists q (subst (λ p. IsConsumers (get_or s.words p 0)) there taken) in (
+    let full = is_full plan.kind plan.slots s.words s.homes lists q (subst (λ p. IsConsumers (word_at s.words p)) there taken) in (
       missed (producing kind sent false misses),
       keeps,
       tt,
@@ -53,8 +64,8 @@ looks_for_room plan slots id kind sent misses i place s stands len at less =
       },
     ))
     (λ not_taken.
-    let word : IsProducers (get_or s.words i 0) = omega arith in
-    let room = has_room plan.kind plan.slots s.words s.homes lists q (subst (λ p. IsProducers (get_or s.words p 0)) there word) in
+    let word : IsProducers (word_at s.words i) = omega arith in
+    let room = has_room plan.kind plan.slots s.words s.homes lists q (subst (λ p. IsProducers (word_at s.words p)) there word) in
     let opened = opens_push plan.kind plan.slots s.words s.homes lists q idle room in (
       record (producing kind sent false misses) { filling = true },
       takes i None,
@@ -68,12 +79,12 @@ looks_for_room plan slots id kind sent misses i place s stands len at less =
         seats = after_sender plan.kind stands.producer stands.consumer lists s.views (record (producing kind sent false misses) { filling = true }) lists.sent true stands.seats
             (record { sender = λ _. (refl, told.1, refl, told.3); receiver = λ e. absurd (true≢false (sym e)) }) id told.0;
       },
-      record { taken = λ taken. absurd (omega arith); free = λ _. refl },
+      record { taken = λ taken. absurd (omega arith); free = λ _. taken_at (record (producing kind sent false misses) { filling = true }) i None },
     ))
 
 pub sends_message : (plan : Plan) (slots id : ℕ) (kind : PortKind) (sent : List Msg) (misses i : ℕ) (m : Msg) → i ≡ length sent % slots → IsStream kind (sent ++ m ∷ [])
-    → Allows (Stands plan) slots id (producing kind sent true misses, (i, Some m) ∷ []) i (λ _. word_for m)
-    (λ _. Sends (step slots i (word_for m) 0 none) (producing kind sent true misses, (i, Some m) ∷ []) (word_for m))
+    → Allows (Stands plan) slots id (producing kind sent true misses, (i, Some m) ∷ []) (line_of i) (λ _. word_for m)
+    (λ _. Sends (step slots (line_of i) (word_for m) 0 none) (producing kind sent true misses, (i, Some m) ∷ []) (word_for m))
 sends_message plan slots id kind sent misses i m place stream s stands len at less =
     let q = stands.queue in
     let lists : Lists = stands.lists in
@@ -89,7 +100,7 @@ sends_message plan slots id kind sent misses i m place stream s stands len at le
         lists = after;
         producer = stands.producer;
         consumer = stands.consumer;
-        queue = subst (λ p. OwnerWords plan.kind plan.slots (set s.words p (word_for m)) (set s.homes p (some (Some m))) after) there changed;
+        queue = subst (λ p. OwnerWords plan.kind plan.slots (set s.words (line_of p) (word_for m)) (set s.homes p (some (Some m))) after) there changed;
         seats = after_sender plan.kind stands.producer stands.consumer lists s.views (record (producing kind sent true misses) { sent = sent ++ m ∷ []; filling = false }) (lists.sent ++ m ∷ []) false stands.seats
             (record { sender = λ _. (refl, ap (λ l. l ++ m ∷ []) told.1, refl, told.3); receiver = λ e. absurd (true≢false (sym e)) }) id told.0;
       },
@@ -97,18 +108,18 @@ sends_message plan slots id kind sent misses i m place stream s stands len at le
     )
 
 pub looks_for_message : (plan : Plan) (slots id : ℕ) (kind : PortKind) (received : List Msg) (misses i : ℕ) → i ≡ length received % slots
-    → Allows (Stands plan) slots id (consuming kind received None misses, []) i (λ n. n) (LooksForMessage (step slots i 0 0 none) (consuming kind received None misses, []))
+    → Allows (Stands plan) slots id (consuming kind received None misses, []) (line_of i) (λ n. n) (LooksForMessage (step slots (line_of i) 0 0 none) (consuming kind received None misses, []))
 looks_for_message plan slots id kind received misses i place s stands len at less =
     let q = stands.queue in
     let lists : Lists = stands.lists in
     let told = (stands.seats id (consuming kind received None misses) at).receiver refl in
     let slots_are : slots ≡ plan.slots = sym len ∙ q.slot_each in
     let there : i ≡ length lists.received % plan.slots = place ∙ ap (λ l. length l % slots) told.1 ∙ ap (λ k. length lists.received % k) slots_are in
-    let same : s.words ≡ set s.words i (get_or s.words i 0) = sym (set-get_or s.words i 0) in
+    let same : s.words ≡ set s.words (line_of i) (word_at s.words i) = sym (set-get_or s.words (line_of i) 0) in
     let idle : lists.noted ≡ None = sym told.2 in
-    dite (dec_le (2 ^ 63) (get_or s.words i 0))
+    dite (dec_le (2 ^ 63) (word_at s.words i))
     (λ full.
-    let found = has_message plan.kind plan.slots s.words s.homes lists q (subst (λ p. IsConsumers (get_or s.words p 0)) there full) in
+    let found = has_message plan.kind plan.slots s.words s.homes lists q (subst (λ p. IsConsumers (word_at s.words p)) there full) in
     let m : Msg = found.0 in
     let opened = opens_pop plan.kind plan.slots s.words s.homes lists q m idle found.1 in
     let stream : IsStream plan.kind lists.sent = elim q.stream [
@@ -131,7 +142,7 @@ looks_for_message plan slots id kind received misses i place s stands len at les
       },
       record {
         none = λ empty. absurd (omega arith);
-        some = λ _. record { message = m; seat = refl; stream = subst (λ k. IsStream k (received ++ m ∷ [])) (sym told.3) (subst (λ l. IsStream plan.kind (l ++ m ∷ [])) (sym told.1) front) };
+        some = λ _. record { message = m; seat = taken_at (record (consuming kind received None misses) { noted = Some m }) i (Some m); stream = subst (λ k. IsStream k (received ++ m ∷ [])) (sym told.3) (subst (λ l. IsStream plan.kind (l ++ m ∷ [])) (sym told.1) front) };
       },
     ))
     (λ not_full. (
@@ -150,8 +161,8 @@ looks_for_message plan slots id kind received misses i place s stands len at les
     ))
 
 pub receives_message : (plan : Plan) (slots id : ℕ) (kind : PortKind) (received : List Msg) (misses i : ℕ) (m : Msg) (word : ℕ) → i ≡ length received % slots → IsProducers word
-    → Allows (Stands plan) slots id (consuming kind received (Some m) misses, (i, None) ∷ []) i (λ _. word)
-    (λ _. Receives (step slots i word 0 none) (consuming kind received (Some m) misses, (i, None) ∷ []) word)
+    → Allows (Stands plan) slots id (consuming kind received (Some m) misses, (i, None) ∷ []) (line_of i) (λ _. word)
+    (λ _. Receives (step slots (line_of i) word 0 none) (consuming kind received (Some m) misses, (i, None) ∷ []) word)
 receives_message plan slots id kind received misses i m word place producers s stands len at less =
     let q = stands.queue in
     let lists : Lists = stands.lists in
@@ -167,7 +178,7 @@ receives_message plan slots id kind received misses i m word place producers s s
         lists = after;
         producer = stands.producer;
         consumer = stands.consumer;
-        queue = subst (λ p. OwnerWords plan.kind plan.slots (set s.words p word) (set s.homes p (some None)) after) there changed;
+        queue = subst (λ p. OwnerWords plan.kind plan.slots (set s.words (line_of p) word) (set s.homes p (some None)) after) there changed;
         seats = after_receiver plan.kind stands.producer stands.consumer lists s.views (record (consuming kind received (Some m) misses) { received = received ++ m ∷ []; noted = None }) (lists.received ++ m ∷ []) None stands.seats
             (record { sender = λ e. absurd (true≢false (sym e)); receiver = λ _. (refl, ap (λ l. l ++ m ∷ []) told.1, refl, told.3) }) id told.0;
       },
@@ -216,7 +227,7 @@ first_fits plan zero view e =
 first_fits plan (suc k) view e = absurd (some-ne-none view (sym e))
 
 -- a new queue: nothing was sent, all slots are empty, and all words are the producer's
-pub starts : (plan : Plan) (words : List ℕ) → 0 < plan.slots → length words ≡ plan.slots → ((place : ℕ) → place < plan.slots → IsProducers (get_or words place 0))
+pub starts : (plan : Plan) (words : List ℕ) → 0 < plan.slots → length words ≡ line_of plan.slots → ((place : ℕ) → place < plan.slots → IsProducers (word_at words place))
     → Stands plan (opening words (replicate plan.slots None) (owning plan.kind [] [] 0))
 starts plan words positive len free = record {
   lists = record { sent = []; received = []; filling = false; noted = None };
@@ -224,7 +235,7 @@ starts plan words positive len free = record {
   consumer = 0;
   queue = record {
     some_place = positive;
-    word_each = len;
+    line_each = len;
     slot_each = length-map (replicate plan.slots None) some ∙ length-replicate plan.slots None;
     in_order = ([], refl);
     within = omega arith;
@@ -239,13 +250,13 @@ starts plan words positive len free = record {
   seats = first_fits plan;
 }
 
-fresh_word : (n place : ℕ) → place < n → IsProducers (get_or (replicate n 0) place 0)
-fresh_word n place less = subst IsProducers (sym (get_or-replicate n place 0 0 less)) (omega arith)
+fresh_word : (n place : ℕ) → place < n → IsProducers (word_at (replicate (line_of n) 0) place)
+fresh_word n place less = subst IsProducers (sym (get_or-replicate (line_of n) (line_of place) 0 0 (omega (arith, less)))) (omega arith)
 
-pub starts_as : (plan : Plan) (words : List ℕ) → 0 < plan.slots → words ≡ replicate plan.slots 0 → Stands plan (opening words (replicate plan.slots None) (owning plan.kind [] [] 0))
+pub starts_as : (plan : Plan) (words : List ℕ) → 0 < plan.slots → words ≡ replicate (line_of plan.slots) 0 → Stands plan (opening words (replicate plan.slots None) (owning plan.kind [] [] 0))
 starts_as plan words positive are =
     subst (λ ws. Stands plan (opening ws (replicate plan.slots None) (owning plan.kind [] [] 0))) (sym are)
-    (starts plan (replicate plan.slots 0) positive (length-replicate plan.slots 0) (λ place less. fresh_word plan.slots place less))
+    (starts plan (replicate (line_of plan.slots) 0) positive (length-replicate (line_of plan.slots) 0) (λ place less. fresh_word plan.slots place less))
 
 pub splits_as : (plan : Plan) (id : ℕ) (kind : PortKind) (me : Seated) → me ≡ (owning kind [] [] 0, []) → Splits (Stands plan) id me.0 (sending_part me.0) (taking_part me.0)
 splits_as plan id kind me is = subst (λ (x : Seated). Splits (Stands plan) id x.0 (sending_part x.0) (taking_part x.0)) (sym is) (splits_roles plan id kind [] [] 0)

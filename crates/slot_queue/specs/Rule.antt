@@ -1,5 +1,5 @@
 -- What holds of a queue between any two steps of its two sides.
-use Rattle.std.specs.Prelude.{ℕ, ◌≡◌, ◌≢◌, ◌+◌, ◌%◌, ◌<◌, ◌≤◌, ◌⊎◌, Bool, true, false, List, [], length, slice_index, Option, Some, None}
+use Rattle.std.specs.Prelude.{ℕ, ◌≡◌, ◌≢◌, ◌+◌, ◌*◌, ◌%◌, ◌<◌, ◌≤◌, ◌⊎◌, Bool, true, false, List, [], length, Option, Some, None}
 use mathlib.Core.Option as maybe
 use mathlib.Core.Option.{some}
 use mathlib.Core.List.{IsPrefix}
@@ -10,7 +10,7 @@ use Rattle.sb_message.specs.declared.message.Msg.{Msg}
 use Rattle.sb_message.specs.Stream.{IsStream}
 use Rattle.slot_queue.specs.declared.view.View.{View}
 use Rattle.slot_queue.specs.declared.view.Plan.{Plan}
-use Rattle.slot_queue.specs.Words.{word_for, IsProducers}
+use Rattle.slot_queue.specs.Words.{words_a_line, word_at, word_for, IsProducers}
 
 -- what the two sides have done: message n of `sent` goes through place n modulo the number of slots
 pub record Lists : Type 0 where
@@ -32,14 +32,14 @@ IsUnderWay lists n m = (length lists.received ≤ n) × (get_elem? lists.sent n 
 -- the words, the slots that are at home, and the two lists
 pub record OwnerWords (kind : PortKind) (slots : ℕ) (words : List ℕ) (homes : List (maybe.Option (Option Msg))) (lists : Lists) : Type 0 where
   pub some_place : 0 < slots
-  pub word_each : length words ≡ slots
+  pub line_each : length words ≡ slots * words_a_line
   pub slot_each : length homes ≡ slots
   -- what was received is the first part of what was sent, and at most as much as there are slots is under way
   pub in_order : IsPrefix lists.received lists.sent
   pub within : length lists.sent ≤ length lists.received + slots
   -- the word of each message under way has its type and is the consumer's; every other word is the producer's
-  pub words_between : (n : ℕ) (m : Msg) → IsUnderWay lists n m → slice_index words (n % slots) ≡ word_for m
-  pub words_other : (place : ℕ) → place < slots → IsVacant slots lists place → IsProducers (slice_index words place)
+  pub words_between : (n : ℕ) (m : Msg) → IsUnderWay lists n m → word_at words (n % slots) ≡ word_for m
+  pub words_other : (place : ℕ) → place < slots → IsVacant slots lists place → IsProducers (word_at words place)
   -- the slot of each message under way holds it, but that of the message in the consumer's hands
   pub slots_between : (n : ℕ) (m : Msg) → IsUnderWay lists n m → (n ≡ length lists.received → lists.noted ≡ None) → get_elem? homes (n % slots) ≡ some (some (Some m))
   -- every other slot is empty, but that in the producer's hands

@@ -2,7 +2,7 @@ ghost use Rattle.std.specs.Prelude.{◌≡◌, MatchOption};
 ghost use Rattle.slot_queue.specs.Ends.{Popped, Emptied};
 
 use crate::plays::{LooksForMessage, Receives};
-use crate::queue::{CONSUMER, SlotQueue, place_after};
+use crate::queue::{CONSUMER, SlotQueue, WORDS_A_LINE, place_after};
 use crate::view::View;
 use atomic_table::Seat;
 use sb_message::{Msg, word_of};
@@ -35,8 +35,9 @@ impl SlotQueue {
     {
         let slots = self.slots;
         let place = end.next;
+        let line = place * WORDS_A_LINE;
         let steps = &self.table.shared;
-        let found = steps.load::<LooksForMessage>(&mut end.seat, place);
+        let found = steps.load::<LooksForMessage>(&mut end.seat, line);
         if found < CONSUMER {
             return None;
         }
@@ -44,7 +45,7 @@ impl SlotQueue {
             unreachable!()
         };
         let word = word_of(m.body.ty(), false);
-        steps.store::<Receives>(&mut end.seat, place, word);
+        steps.store::<Receives>(&mut end.seat, line, word);
         end.next = place_after(place, slots);
         Some(m)
     }

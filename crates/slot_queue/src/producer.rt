@@ -3,7 +3,7 @@ ghost use Rattle.sb_message.specs.Stream.{IsStream};
 ghost use Rattle.slot_queue.specs.Ends.{Pushed, CameBack};
 
 use crate::plays::{LooksForRoom, Sends};
-use crate::queue::{CONSUMER, SlotQueue, place_after};
+use crate::queue::{CONSUMER, SlotQueue, WORDS_A_LINE, place_after};
 use crate::view::View;
 use atomic_table::Seat;
 use port_queue::Full;
@@ -38,14 +38,15 @@ impl SlotQueue {
     {
         let slots = self.slots;
         let place = end.next;
+        let line = place * WORDS_A_LINE;
         let steps = &self.table.shared;
-        let found = steps.load::<LooksForRoom>(&mut end.seat, place);
+        let found = steps.load::<LooksForRoom>(&mut end.seat, line);
         if found >= CONSUMER {
             return Err(Full(m));
         }
         let word = word_of(m.body.ty(), true);
         let _empty = steps.exchange(&mut end.seat, place, Some(m));
-        steps.store::<Sends>(&mut end.seat, place, word);
+        steps.store::<Sends>(&mut end.seat, line, word);
         end.next = place_after(place, slots);
         Ok(())
     }

@@ -15,6 +15,9 @@ use std::marker::Model;
 /// The owner's bit of a word: set where the slot is the consumer's.
 pub(crate) const CONSUMER: u64 = 1 << 63;
 
+/// Words of a cache line. Each slot's word has a line to itself, since the two sides change the words of neighbouring slots.
+pub(crate) const WORDS_A_LINE: usize = 8;
+
 /// A queue of messages to a port. It is made with its two sides, and shared by the threads that have them.
 #[derive(Drop)]
 pub struct SlotQueue {
@@ -23,14 +26,15 @@ pub struct SlotQueue {
 }
 
 impl Model for SlotQueue {
-    ghost use Rattle.std.specs.Prelude.{◌≡◌, ◌<◌, ◌≤◌};
+    ghost use Rattle.std.specs.Prelude.{◌≡◌, ◌*◌, ◌<◌, ◌≤◌};
     ghost use Rattle.slot_queue.specs.Ends.{Named};
+    ghost use Rattle.slot_queue.specs.Words.{words_a_line};
 
     ghost Value = { Named };
 
     ghost view = { λ q. record { name = q.table.shared.table_id; kind = q.table.shared.key.kind } };
 
-    ghost invariant = { λ q. (0 < q.slots) × (q.slots ≤ 1024) × (q.table.shared.table_id.words ≡ q.slots) × (q.table.shared.table_id.slots ≡ q.slots) × (q.table.shared.key.slots ≡ q.slots) };
+    ghost invariant = { λ q. (0 < q.slots) × (q.slots ≤ 1024) × (q.table.shared.table_id.words ≡ q.slots * words_a_line) × (q.table.shared.table_id.slots ≡ q.slots) × (q.table.shared.key.slots ≡ q.slots) };
 }
 
 impl SlotQueue {
@@ -47,7 +51,7 @@ impl SlotQueue {
         ensures consumer { IfOk result (λ made. made.2 ≡ new_receiver made.0.name kind) }
     {
         let slots = slots as usize;
-        let words = vec![in alloc; 0; slots]?;
+        let words = vec![in alloc; 0; slots * WORDS_A_LINE]?;
         let plan = Plan { slots, kind };
         let (table, mut seat) = Table::vacant(alloc, words.as_slice(), slots, &plan)?;
         let other = table.shared.split_seat::<Roles>(&mut seat);
