@@ -16,3 +16,6 @@ pub use hop::{Hop, ProxyBad};
 pub use laws::what_was_pushed_was_popped;
 pub use proxy_in::ProxyIn;
 pub use proxy_out::ProxyOut;
+
+#[cfg(test)]
+mod tests;
