@@ -14,7 +14,7 @@ use Rattle.cosim_cmd.specs.declared.refusal.OutputBad.TheVariants as bad
 use Rattle.cosim_cmd.specs.declared.refusal.Refusal.{Refusal}
 use Rattle.cosim_cmd.specs.declared.refusal.Refusal.TheVariants as refused
 use Rattle.cosim_cmd.specs.NoTopology.{IsNoTopology}
-use Rattle.cosim_cmd.specs.Sentence.{Text, Sentence, Check, Model, Replay, Asm, file_of}
+use Rattle.cosim_cmd.specs.Sentence.{Text, Sentence, Check, Model, Serial, Replay, Asm, file_of}
 use Rattle.cosim_cmd.specs.Inputs.{Inputs, AreImages, AreFurther, HasRead}
 use Rattle.cosim_cmd.specs.Outputs.{LacksTopology, LacksService, LacksHostRoom, LacksStep, LacksProgram, Accepts}
 use Rattle.cosim_cmd.specs.Refusals.{status_of, output_status}
@@ -36,6 +36,7 @@ no_topology bytes line t text (inr none) =
 has_topology : (s : Sentence) (inputs : Inputs) (line : List ℕ) → Accepts s inputs → LacksTopology s inputs.text line → ⊥
 has_topology (Check file) inputs line accepted lacks = no_topology inputs.text line accepted.0 accepted.1 lacks
 has_topology (Model file stats) inputs line accepted lacks = no_topology inputs.text line accepted.topology accepted.spelled lacks
+has_topology (Serial file stats) inputs line accepted lacks = no_topology inputs.text line accepted.topology accepted.spelled lacks
 has_topology (Replay file schedule) inputs line accepted lacks = no_topology inputs.text line accepted.fact.topology accepted.fact.spelled lacks
 has_topology (Asm file) inputs line accepted lacks = lacks
 
@@ -43,6 +44,9 @@ has_topology (Asm file) inputs line accepted lacks = lacks
 has_service : (s : Sentence) (inputs : Inputs) (line : List ℕ) → Accepts s inputs → LacksService s inputs.text line → ⊥
 has_service (Check file) inputs line accepted lacks = lacks
 has_service (Model file stats) inputs line accepted lacks = lacks
+has_service (Serial file stats) inputs line accepted lacks =
+    let same : accepted.topology ≡ lacks.topology = one_topology inputs.text accepted.topology lacks.topology accepted.spelled lacks.spelled in
+    let clash : None ≡ Some lacks.fact.number = sym accepted.fact.by_queues ∙ ap first_proxied same ∙ lacks.fact.first in cc
 has_service (Replay file schedule) inputs line accepted lacks =
     let same : accepted.fact.topology ≡ lacks.topology = one_topology inputs.text accepted.fact.topology lacks.topology accepted.fact.spelled lacks.spelled in
     let clash : None ≡ Some lacks.fact.number = sym accepted.fact.fact.0.by_queues ∙ ap first_proxied same ∙ lacks.fact.first in cc
@@ -69,6 +73,7 @@ can_step t images schedule line can faulty =
 has_step : (s : Sentence) (inputs : Inputs) (line : List ℕ) → Accepts s inputs → LacksStep s inputs line → ⊥
 has_step (Check file) inputs line accepted lacks = lacks
 has_step (Model file stats) inputs line accepted lacks = lacks
+has_step (Serial file stats) inputs line accepted lacks = lacks
 has_step (Replay file schedule) inputs line accepted lacks =
     let same : accepted.fact.topology ≡ lacks.fact.topology = one_topology inputs.text accepted.fact.topology lacks.fact.topology accepted.fact.spelled lacks.fact.spelled in
     let parts = last_apart lacks.images accepted.images lacks.schedule accepted.schedule (sym lacks.behind ∙ accepted.behind) in
@@ -80,6 +85,7 @@ has_step (Asm file) inputs line accepted lacks = lacks
 has_program : (s : Sentence) (inputs : Inputs) (line : List ℕ) → Accepts s inputs → LacksProgram s inputs.text line → ⊥
 has_program (Check file) inputs line accepted lacks = lacks
 has_program (Model file stats) inputs line accepted lacks = lacks
+has_program (Serial file stats) inputs line accepted lacks = lacks
 has_program (Replay file schedule) inputs line accepted lacks = lacks
 has_program (Asm file) inputs line accepted lacks = let clash : Ok accepted.0 ≡ Err (lacks.number, lacks.reason) = sym accepted.1 ∙ lacks.refused in cc
 
@@ -115,6 +121,7 @@ same_images bytes names others is also =
 same_names : (s : Sentence) (bytes : List ℕ) (names others : List Text) → AreFurther s bytes names → AreFurther s bytes others → names ≡ others
 same_names (Check file) bytes names others is also = is ∙ sym also
 same_names (Model file stats) bytes names others is also = same_images bytes names others is also
+same_names (Serial file stats) bytes names others is also = same_images bytes names others is also
 same_names (Replay file schedule) bytes names others is also =
     is.behind ∙ ap (λ (images : List Text). images ++ schedule ∷ []) (same_images bytes is.images also.images is.are_images also.are_images) ∙ sym also.behind
 same_names (Asm file) bytes names others is also = is ∙ sym also
@@ -142,6 +149,10 @@ module _ (held : Text → Option (List ℕ)) (inputs : Inputs) (names : List Tex
       let same : accepted.topology ≡ lacks.topology = one_topology inputs.text accepted.topology lacks.topology accepted.spelled lacks.spelled in
       let programs : inputs.more ≡ images = sym (are_told names inputs.more further told) in
       let clash : None ≡ Some lacks.fact.number = sym accepted.fact ∙ ap₂ too_long same programs ∙ lacks.fact.too_long_is in cc
+  has_room (Serial file stats) accepted further lacks =
+      let same : accepted.topology ≡ lacks.topology = one_topology inputs.text accepted.topology lacks.topology accepted.spelled lacks.spelled in
+      let programs : inputs.more ≡ images = sym (are_told names inputs.more further told) in
+      let clash : None ≡ Some lacks.fact.1.number = sym accepted.fact.fit ∙ ap₂ too_long same programs ∙ lacks.fact.1.too_long_is in cc
   has_room (Replay file schedule) accepted further lacks =
       let same : accepted.fact.topology ≡ lacks.topology = one_topology inputs.text accepted.fact.topology lacks.topology accepted.fact.spelled lacks.spelled in
       let told_all : AllZip (λ name bytes. held name ≡ Some bytes) (further.images ++ schedule ∷ []) (accepted.images ++ accepted.schedule ∷ []) = subst (λ contents. AllZip (λ name bytes. held name ≡ Some bytes) (further.images ++ schedule ∷ []) contents) accepted.behind (subst (λ names. AllZip (λ name bytes. held name ≡ Some bytes) names inputs.more) further.behind told) in

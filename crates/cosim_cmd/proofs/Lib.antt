@@ -8,5 +8,6 @@ pub mod LogTimes
 pub mod MeshLogs
 pub mod Reading
 pub mod ReplayReading
+pub mod SerialReading
 pub mod TooLong
 pub mod Accepting

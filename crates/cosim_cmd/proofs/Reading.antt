@@ -20,10 +20,11 @@ use Rattle.cosim_cmd.specs.declared.words.Sentence.{Sentence as Read}
 use Rattle.cosim_cmd.specs.Said.{said}
 use Rattle.cosim_cmd.specs.Check.{IsChecked}
 use Rattle.cosim_cmd.specs.Asm.{IsAssembled}
-use Rattle.cosim_cmd.specs.Sentence.{Text, Sentence, Check, Model, Replay, Asm, file_of}
+use Rattle.cosim_cmd.specs.Sentence.{Text, Sentence, Check, Model, Serial, Replay, Asm, file_of}
 use Rattle.cosim_cmd.specs.Inputs.{Inputs, AreFurther, AreImages, AreImagesAnd, AsksNothing, AsksFor, AsksAtMost, AsksBeginning, AsksIfAny, IsReadAs, IsUnreadAs, AreTold, AreRead, OfRead, IsOneUnread, AsksAtMostInOrder, last_of}
 use Rattle.cosim_cmd.specs.Model.{IsModelled, IsLogged, IsTooLong, IsModelBad}
 use Rattle.cosim_cmd.specs.Replay.{IsReplay, IsReplayBad}
+use Rattle.cosim_cmd.specs.Serial.{IsSerialBad}
 use Rattle.cosim_cmd.specs.Outputs.{IsOutput, LacksStep}
 use Rattle.cosim_cmd.specs.Local.{OfRest, OfInputs, Lacks, AsksFurther, IsOutputBad}
 
@@ -183,6 +184,16 @@ module _ (file : Text) (stats : Bool) (bytes : List ℕ) (before after : FilesSe
   model_lacks (model.Topology line) why = why
   model_lacks (model.File line) why = why
   model_lacks (model.Image line) why = why
+
+module _ (file : Text) (stats : Bool) (bytes : List ℕ) (before after : FilesSeen) where
+  pub serial_lacks : (bad : OutputBad) → IsSerialBad bytes before after bad → Lacks (record { sentence = Serial file stats; bytes = bytes }) before after bad
+  serial_lacks bad.NoMemory why = tt
+  serial_lacks (bad.File line) why = why
+  serial_lacks (bad.Topology line) why = why
+  serial_lacks (bad.NotBuilt line) why = why
+  serial_lacks (bad.Image line) why = why
+  serial_lacks (bad.Schedule line) why = absurd why
+  serial_lacks (bad.Asm line) why = absurd why
 
 module _ (file schedule : Text) (bytes : List ℕ) (before after : FilesSeen) where
   pub replay_lacks : (bad : OutputBad) → IsReplayBad bytes schedule before after bad → Lacks (record { sentence = Replay file schedule; bytes = bytes }) before after bad

@@ -5,7 +5,7 @@ use Rattle.cs_base.specs.Outside.{FilesSeen, IsTold, Rose}
 use Rattle.topology_file.specs.declared.topology.Topology.{Topology}
 use Rattle.topology_file.specs.Reading.{IsTopologyText}
 use Rattle.device_set.specs.Images.{image_names}
-use Rattle.cosim_cmd.specs.Sentence.{Text, Sentence, Check, Model, Replay, Asm, sentence_of, file_of}
+use Rattle.cosim_cmd.specs.Sentence.{Text, Sentence, Check, Model, Serial, Replay, Asm, sentence_of, file_of}
 use Rattle.cosim_cmd.specs.Lines.{file_line}
 
 -- the bytes of the command's file, and of the files that it reads after that one, in order
@@ -29,6 +29,7 @@ pub record AreImagesAnd (bytes : List ℕ) (schedule : Text) (names : List Text)
 abbrev pub AreFurther : Sentence → List ℕ → List Text → Type 0
 AreFurther (Check file) bytes names = names ≡ []
 AreFurther (Model file stats) bytes names = AreImages bytes names
+AreFurther (Serial file stats) bytes names = AreImages bytes names
 AreFurther (Replay file schedule) bytes names = AreImagesAnd bytes schedule names
 AreFurther (Asm file) bytes names = names ≡ []
 

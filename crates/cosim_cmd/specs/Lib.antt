@@ -6,6 +6,7 @@ pub mod NoTopology
 pub mod Check
 pub mod Model
 pub mod Replay
+pub mod Serial
 pub mod Asm
 pub mod Refusals
 pub mod Inputs

@@ -3,13 +3,14 @@ use Rattle.std.specs.Prelude.{true, codes, Some}
 use Rattle.clap.specs.Walk.{Rule}
 use Rattle.clap.specs.declared.builder.action.ArgAction.TheVariants.{SetTrue}
 use Rattle.clap.specs.Simple.{App, Shape, new_rule, new_app, with_rule, on_top}
-use Rattle.cosim_cmd.specs.Sentence.{Text, Sentence, Check, Model, Replay, Asm}
+use Rattle.cosim_cmd.specs.Sentence.{Text, Sentence, Check, Model, Serial, Replay, Asm}
 use Rattle.cosim_cmd.specs.declared.words.Sentence.{Sentence as Read}
 use Rattle.cosim_cmd.specs.declared.words.Sentence.TheVariants as read
 
 abbrev pub said : Read → Sentence
 said (read.Check file) = Check file.now
 said (read.Model file stats) = Model file.now stats
+said (read.Serial file stats) = Serial file.now stats
 said (read.Replay file schedule) = Replay file.now schedule.now
 said (read.Asm file) = Asm file.now
 

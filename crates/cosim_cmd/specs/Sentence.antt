@@ -83,6 +83,7 @@ file_and_stats words = both (single (operands words)) (is_given (codes "--stats"
 pub data Sentence : Type 0 where
   Check : Text → Sentence
   Model : (file : Text) (stats : Bool) → Sentence
+  Serial : (file : Text) (stats : Bool) → Sentence
   Replay : (file schedule : Text) → Sentence
   Asm : Text → Sentence
 
@@ -90,6 +91,7 @@ pub data Sentence : Type 0 where
 abbrev pub file_of : Sentence → Text
 file_of (Check file) = file
 file_of (Model file stats) = file
+file_of (Serial file stats) = file
 file_of (Replay file schedule) = file
 file_of (Asm file) = file
 
@@ -99,6 +101,7 @@ sentence_of [] = None
 sentence_of (command ∷ words) =
     if bytes_eq command (codes "check") then option_map Check (file_word words)
     else if bytes_eq command (codes "model") then option_map (λ p. Model p.0 p.1) (file_and_stats words)
+    else if bytes_eq command (codes "serial") then option_map (λ p. Serial p.0 p.1) (file_and_stats words)
     else if bytes_eq command (codes "replay") then option_map (λ p. Replay p.0 p.1) (file_pair words)
     else if bytes_eq command (codes "asm") then option_map Asm (file_word words)
     else None

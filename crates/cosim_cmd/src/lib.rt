@@ -11,6 +11,7 @@ mod names;
 mod refusal;
 mod replay;
 mod report;
+mod serial;
 mod topology_text;
 mod words;
 mod write;

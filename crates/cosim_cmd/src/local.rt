@@ -14,6 +14,7 @@ use crate::model::modelled;
 use crate::refusal::{Fault, ModelBad, OutputBad, Refusal, unread};
 use crate::replay::replayed;
 use crate::report::report;
+use crate::serial::stepped_to_the_end;
 use crate::words::Sentence;
 use crate::write::write_all;
 use cs_base::{Failed, Files, Octets, Sink};
@@ -57,6 +58,7 @@ fn made<F: Files>(
             Ok(text) => Ok(text),
             Err(bad) => Err(of_model(bad)),
         },
+        Sentence::Serial { stats, .. } => stepped_to_the_end(alloc, *stats, bytes, files),
         Sentence::Replay { schedule, .. } => replayed(alloc, bytes, schedule, files),
         Sentence::Asm { .. } => match assembled(alloc, bytes) {
             Ok(text) => Ok(text),
@@ -111,7 +113,7 @@ fn run<F: Files, K: Sink>(
 /// - 0: the output stands whole in `out`.
 /// - 1: memory is wanting, `cosim: no memory`.
 /// - 2: the words are no sentence, `cosim: usage`. The sentences are `check <file>`, `model <file> [--stats]`,
-///   `replay <file> <schedule>` and `asm <file>`. A word that begins with `-` and isn't `-` alone is an option's, which
+///   `serial <file> [--stats]`, `replay <file> <schedule>` and `asm <file>`. A word that begins with `-` and isn't `-` alone is an option's, which
 ///   stands anywhere, and once; after a word `--` each word is positional.
 /// - 3: the file can't be read, `cosim: file <name>`.
 /// - 4: the file is no topology, `cosim: topology toml` or `cosim: topology <reason> at <entry>`.
@@ -120,11 +122,12 @@ fn run<F: Files, K: Sink>(
 /// - 10: `replay` has a schedule with a line that spells no step or one that isn't enabled in its turn,
 ///   `cosim: schedule <line>`.
 /// - 11: `asm` has a source with a fault, `cosim: asm <line> <reason>`.
-/// - 20: `replay` has a topology with a link by proxy, `cosim: not built link <number>`.
+/// - 20: `serial` or `replay` has a topology with a link by proxy, `cosim: not built link <number>`.
 ///
 /// `check` writes the topology with every key of every entry, as a topology file; it needs nothing but the file.
 /// `model` writes the joined log of the run, and with `--stats` a line for each channel after it:
-/// `channel <k> <from> <to> syncs <n> sends <m>`. `replay` takes the steps of a schedule, one by one, on components with
+/// `channel <k> <from> <to> syncs <n> sends <m>`. `serial` writes the same, by steps of components with clocks of their own,
+/// until all have ended. `replay` takes the steps of a schedule, one by one, on components with
 /// clocks of their own, and writes the joined log so far and a line, `state ended` or `state running`. `asm` writes the
 /// bytes of an assembler's source.
 ///

@@ -1,8 +1,11 @@
-//! The command `model`: the joined log of the global simulator, and the statistics of its run.
+//! The command `model`: the joined log of the global simulator, and the statistics of its run. The run on local clocks
+//! has the same text.
 ghost use Rattle.std.specs.Prelude.{◌≡◌, ◌<◌, All, map, length, IfOk, IfErr};
+ghost use Rattle.global_model.specs.Runs.{HasLogsOf, HasCountsOf};
 ghost use Rattle.device_set.specs.AnyKind.{any_device, IsSettledDevice};
 ghost use Rattle.cosim_cmd.specs.Model.{run_text, AreReady, IsLogged, IsTooLong, IsHostLine, IsModelled, IsModelBad};
 ghost use Rattle.cosim_cmd.specs.Inputs.{AreImages, OfRead, AsksIfAny};
+ghost use Rattle.cosim_cmd.specs.Serial.{CanRun};
 ghost use Rattle.cosim_cmd.specs.Refusals.{IsFault, of_image, unread_image};
 
 use crate::input::contents;
@@ -12,25 +15,57 @@ use crate::refusal::{Fault, ModelBad};
 use crate::topology_text::topology;
 use channel_stats::channel_lines;
 use cs_base::{Files, NoMemory, Octets};
+use device_api::Outcome;
 use device_set::{AnyDevice, StartBad, image_names, start};
 use global_model::simulate;
 use log_join::join;
+use serial_run::serial;
 use std::alloc::Global;
 use topology_file::Topology;
+
+/// Whose time a run goes by.
+#[derive(Clone, Copy, Debug)]
+pub enum Clocks {
+    /// One for all components: all events by time, component and port.
+    Global,
+    /// One of each component's own, as far as its channels allow.
+    Local,
+}
+
+/// The run of a topology's devices.
+fn outcome(
+    alloc: Global,
+    clocks: Clocks,
+    topology: &Topology,
+    devices: Vec<AnyDevice>,
+) -> Result<Outcome, NoMemory>
+    requires matches { map any_device.ports devices.items ≡ topology.now.wiring.kinds }
+    requires at_start { All (λ device. IsSettledDevice device 0) devices.items }
+    requires served { CanRun clocks topology.now }
+    ensures logs { IfOk result (HasLogsOf any_device devices.items topology.now.wiring) }
+    ensures counts { IfOk result (HasCountsOf any_device devices.items topology.now.wiring) }
+{
+    match clocks {
+        Clocks::Global => simulate(alloc, devices, &topology.wiring),
+        Clocks::Local => serial(alloc, devices, &topology.wiring),
+    }
+}
 
 /// The joined log of a topology's devices, and where they are asked for, the statistics after it.
 fn run_text(
     alloc: Global,
+    clocks: Clocks,
     stats: bool,
     topology: &Topology,
     devices: Vec<AnyDevice>,
 ) -> Result<Octets, NoMemory>
     requires matches { map any_device.ports devices.items ≡ topology.now.wiring.kinds }
     requires at_start { All (λ device. IsSettledDevice device 0) devices.items }
+    requires served { CanRun clocks topology.now }
     ensures { IfOk result (λ text. text ≡ run_text stats topology.now devices.items) }
 {
     let names = names_of(alloc, topology.components.as_slice())?;
-    let outcome = simulate(alloc, devices, &topology.wiring)?;
+    let outcome = outcome(alloc, clocks, topology, devices)?;
     let mut text = join(alloc, &outcome.logs, names.as_slice())?;
     if !stats {
         return Ok(text);
@@ -69,17 +104,19 @@ pub fn started(
 }
 
 /// The text of the run of a topology with these programs.
-fn logged(
+pub fn logged(
     alloc: Global,
+    clocks: Clocks,
     stats: bool,
     topology: &Topology,
     images: Vec<Octets>,
 ) -> Result<Octets, Fault>
+    requires { CanRun clocks topology.now }
     ensures logged { IfOk result (IsLogged stats topology.now images.items) }
     ensures refused { IfErr result (IsFault (IsTooLong topology.now images.items)) }
 {
     match started(alloc, topology, images) {
-        Ok(devices) => Ok(run_text(alloc, stats, topology, devices)?),
+        Ok(devices) => Ok(run_text(alloc, clocks, stats, topology, devices)?),
         Err(fault) => Err(fault),
     }
 }
@@ -123,7 +160,7 @@ pub fn modelled<F: Files>(
     };
     let names = image_names(alloc, &topology)?;
     match contents(alloc, names.as_slice(), files) {
-        Ok(images) => match logged(alloc, stats, &topology, images) {
+        Ok(images) => match logged(alloc, Clocks::Global, stats, &topology, images) {
             Ok(text) => Ok(text),
             Err(fault) => Err(too_long(fault)),
         },

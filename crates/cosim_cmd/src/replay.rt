@@ -43,7 +43,7 @@ fn proxied_among(links: &[Link]) -> Option<u64>
 }
 
 /// The first link by proxy.
-fn first_proxied(topology: &Topology) -> Option<u64>
+pub fn first_proxied(topology: &Topology) -> Option<u64>
     ensures { result ≡ first_proxied topology.now }
 {
     proxied_among(topology.wiring.links.as_slice())

@@ -13,6 +13,7 @@ mod images;
 mod modelling;
 mod replaying;
 mod sentences;
+mod stepping;
 mod switching;
 
 /// The name of the one file that there is.

@@ -16,6 +16,8 @@ pub enum Sentence<'a> {
     Check { file: &'a str },
     /// `model <file> [--stats]`
     Model { file: &'a str, stats: bool },
+    /// `serial <file> [--stats]`
+    Serial { file: &'a str, stats: bool },
     /// `replay <file> <schedule>`
     Replay { file: &'a str, schedule: &'a str },
     /// `asm <file>`
@@ -133,6 +135,10 @@ impl<'a> Sentence<'a> {
                 file,
                 stats,
             )| Sentence::Model { file, stats })),
+            "serial" => Ok(file_and_stats(alloc, "serial", words)?.map(|(
+                file,
+                stats,
+            )| Sentence::Serial { file, stats })),
             "replay" => Ok(file_pair(alloc, "replay", words)?.map(|(
                 file,
                 schedule,
@@ -149,6 +155,7 @@ impl<'a> Sentence<'a> {
         match *self {
             Sentence::Check { file }
             | Sentence::Model { file, .. }
+            | Sentence::Serial { file, .. }
             | Sentence::Replay { file, .. }
             | Sentence::Asm { file } => file,
         }

@@ -18,7 +18,7 @@ const NO_SENTENCES: [&[&str]; 17] = [
     &["replay", "a", "--stats", "b"],
     &["replay", "a", "b", "--", "c"],
     &["--help"],
-    &["serial", "a"],
+    &["serial", "a", "b"],
     &["run", "a", "--workers", "2"],
 ];
 

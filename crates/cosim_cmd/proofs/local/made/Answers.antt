@@ -5,10 +5,10 @@ use Rattle.cosim_cmd.specs.declared.words.Sentence.{Sentence as Read}
 use Rattle.cosim_cmd.specs.declared.words.Sentence.TheVariants as read
 use Rattle.cosim_cmd.specs.declared.refusal.OutputBad.{OutputBad}
 use Rattle.cosim_cmd.specs.Said.{said}
-use Rattle.cosim_cmd.specs.Sentence.{Sentence, Check, Replay, Asm}
+use Rattle.cosim_cmd.specs.Sentence.{Sentence, Check, Serial, Replay, Asm}
 use Rattle.cosim_cmd.specs.Outputs.{IsOutput}
 use Rattle.cosim_cmd.specs.Local.{OfRest, Lacks}
-use Rattle.cosim_cmd.proofs.Reading.{check_made, asm_made, model_lacks, replay_lacks}
+use Rattle.cosim_cmd.proofs.Reading.{check_made, asm_made, model_lacks, serial_lacks, replay_lacks}
 use Rattle.cosim_cmd.proofs.local.made.Goals as goal
 
 pub returns-in-Ok-clause-made : goal.returns-in-Ok-clause-made
@@ -35,6 +35,25 @@ returns-in-Err-clause-refused g c =
     let why = model_lacks c.in-Model.file.now c.in-Model.stats bytes before after c.in-Err.bad c.in-Err.ensures.refused in
     subst (λ (r : Read). Lacks (record { sentence = said r; bytes = bytes }) before after c.of_model.result) (sym c.in-Model.is)
     (subst (λ (bad : OutputBad). Lacks (record { sentence = said (read.Model c.in-Model.file c.in-Model.stats); bytes = bytes }) before after bad) (sym c.of_model.ensures) why)
+
+pub returns-in-Serial-clause-made : goal.returns-in-Serial-clause-made
+returns-in-Serial-clause-made g c =
+    let r = c.args.sentence.now in
+    let bytes = c.args.bytes.now in
+    let before = g.F.Files.seen c.args.files.now in
+    let after = g.F.Files.seen c.stepped_to_the_end.new.files in
+    let is : said r ≡ Serial c.in-Serial.file.now c.in-Serial.stats = ap said c.in-Serial.is in
+    subst (λ (s : Sentence). IfOk c.stepped_to_the_end.result (λ text. OfRest (record { sentence = s; bytes = bytes }) before after (λ inputs. IsOutput s inputs text))) (sym is) c.stepped_to_the_end.ensures.written
+
+pub returns-in-Serial-clause-refused : goal.returns-in-Serial-clause-refused
+returns-in-Serial-clause-refused g c =
+    let r = c.args.sentence.now in
+    let bytes = c.args.bytes.now in
+    let before = g.F.Files.seen c.args.files.now in
+    let after = g.F.Files.seen c.stepped_to_the_end.new.files in
+    let is : said r ≡ Serial c.in-Serial.file.now c.in-Serial.stats = ap said c.in-Serial.is in
+    subst (λ (s : Sentence). IfErr c.stepped_to_the_end.result (Lacks (record { sentence = s; bytes = bytes }) before after)) (sym is)
+    (IfErr-weaker c.stepped_to_the_end.result _ _ (serial_lacks c.in-Serial.file.now c.in-Serial.stats bytes before after) c.stepped_to_the_end.ensures.refused)
 
 pub returns-in-Replay-clause-made : goal.returns-in-Replay-clause-made
 returns-in-Replay-clause-made g c =
