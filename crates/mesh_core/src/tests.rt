@@ -27,6 +27,14 @@ fn pair(alloc: Global, end: u64) -> Result<Wiring, Fail>
     ensures kinds { IfOk result (λ wiring. wiring.kinds ≡ (Ethernet ∷ []) ∷ ((Ethernet ∷ []) ∷ [])) }
     ensures by_queues { IfOk result (λ wiring. All (λ (link : LinkOf). link.via ≡ ByQueue) wiring.links) }
 {
+    pair_by(alloc, end, 500, 2)
+}
+
+/// Two beacons whose link has these times and so many places.
+fn pair_by(alloc: Global, end: u64, latency: u64, slots: u32) -> Result<Wiring, Fail>
+    ensures kinds { IfOk result (λ wiring. wiring.kinds ≡ (Ethernet ∷ []) ∷ ((Ethernet ∷ []) ∷ [])) }
+    ensures by_queues { IfOk result (λ wiring. All (λ (link : LinkOf). link.via ≡ ByQueue) wiring.links) }
+{
     let mut kinds = Items::new(alloc);
     kinds.push(one_port(alloc)?)?;
     kinds.push(one_port(alloc)?)?;
@@ -36,9 +44,9 @@ fn pair(alloc: Global, end: u64) -> Result<Wiring, Fail>
         a_port: 0,
         b: 1,
         b_port: 0,
-        latency: Time(500),
-        interval: Time(500),
-        slots: 2,
+        latency: Time(latency),
+        interval: Time(latency),
+        slots,
         via: Via::Queue,
     })?;
     Ok(Wiring::new(Time(end), kinds, links).ok_or("no wiring")?)
@@ -206,5 +214,58 @@ fn walks_begin_the_global_run(rt: HostRuntime) -> Result<(), Fail> {
         }
     }
     assert!(rt; ends > 0, "no walk has ended");
+    Ok(())
+}
+
+/// Whether a mesh that ran to its end has ended, and what it then leaves.
+fn run<V: Device>(
+    alloc: Global,
+    devices: Vec<V>,
+    wiring: &Wiring,
+) -> Result<(bool, Outcome), NoMemory>
+    requires matches { map V.behaviour.ports devices.items ≡ wiring.now.kinds }
+    requires at_start { All (λ device. V.settled device 0) devices.items }
+    requires by_queues { All (λ (link : LinkOf). link.via ≡ ByQueue) wiring.now.links }
+{
+    a_new_mesh_stands::<V>();
+    let mut mesh = Mesh::new(alloc, devices, wiring)?;
+    mesh.serial(alloc)?;
+    let ended = mesh.ended();
+    Ok((ended, mesh.outcome()))
+}
+
+fn run_pair(alloc: Global, wiring: &Wiring) -> Result<(bool, Outcome), Fail>
+    requires kinds { wiring.now.kinds ≡ (Ethernet ∷ []) ∷ ((Ethernet ∷ []) ∷ []) }
+    requires by_queues { All (λ (link : LinkOf). link.via ≡ ByQueue) wiring.now.links }
+{
+    let a = beacon(alloc, 2)?;
+    let b = beacon(alloc, 1)?;
+    let mut devices = Vec::new(alloc);
+    devices.push(a)?;
+    devices.push(b)?;
+    Ok(run(alloc, devices, wiring)?)
+}
+
+/// Whether a run to the end logs and counts what the global simulator does.
+fn ends_as_simulated(alloc: Global, latency: u64, slots: u32) -> Result<bool, Fail> {
+    let wiring = pair_by(alloc, 2600, latency, slots)?;
+    let whole = simulate_pair(alloc, &wiring)?;
+    let (mut same, ran) = run_pair(alloc, &wiring)?;
+    for component in [0, 1] {
+        let part = text_of(alloc, &ran.logs, component)?;
+        let all = text_of(alloc, &whole.logs, component)?;
+        same = same && part.as_slice() == all.as_slice();
+    }
+    Ok(same && ran.counts.as_slice() == whole.counts.as_slice())
+}
+
+#[test]
+fn a_run_to_the_end_is_the_global_run(rt: HostRuntime) -> Result<(), Fail> {
+    assert!(rt; ends_as_simulated(rt.alloc(), 500, 2)?);
+    assert!(rt; ends_as_simulated(rt.alloc(), 500, 1)?, "one place");
+    assert!(rt;
+        ends_as_simulated(rt.alloc(), 1, 64)?,
+        "shortest latency and interval"
+    );
     Ok(())
 }
