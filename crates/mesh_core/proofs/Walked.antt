@@ -19,6 +19,7 @@ use Rattle.mesh_core.specs.ToCome.{steps_to_come, IsOneLess}
 use Rattle.mesh_core.specs.Walk.{Walk, IsLessBy, WalksLowerIt, Went, RunsOn, Carries, RunsEach, CarriesEach, Rounds, IsRefusedIn, is_everyone}
 use Rattle.mesh_core.specs.Walk.Walk.{none_made, one_more as one_step}
 use Rattle.mesh_core.specs.declared.serial.Awake.{Awake}
+use Rattle.mesh_core.specs.declared.serial.Awake.TheVariants.{Everyone}
 use Rattle.sync_laws.specs.Whole.{of_component}
 use Rattle.sync_laws.proofs.InARow.{ready_throughout}
 use Rattle.mesh_core.proofs.Ends.{IsStanding, standing}
@@ -95,6 +96,20 @@ module _ {V : Type 0} (b : Behaviour V) where
   carries awake k old mid new true got s g = record { went = then_went old mid new true got (step_went (Send k) old mid true s) (step_went (Poll k) mid new got g); no_send = λ e. absurd (let no : true ≡ false = e in cc); no_poll = λ e. absurd (let no : true ≡ false = e in cc) }
   carries awake k old mid new false true s g = record { went = then_went old mid new false true (step_went (Send k) old mid false s) (step_went (Poll k) mid new true g); no_send = λ e. absurd (let no : true ≡ false = e in cc); no_poll = λ e. absurd (let no : true ≡ false = e in cc) }
   carries awake k old mid new false false s g = record { went = then_went old mid new false false (step_went (Send k) old mid false s) (step_went (Poll k) mid new false g); no_send = λ _ everyone. s.leads_nowhere; no_poll = λ _ everyone. subst (λ (m : State V). IsRefusedIn b m (Poll k)) s.unchanged g.leads_nowhere }
+
+  -- a channel's turn that goes on, and one that ends where nothing moved
+  pub gone_on : (old mid new : State V) (so_far more : Bool) → Went b old mid so_far → Went b mid new more → more ≡ true → Went b old new true
+  gone_on old mid new so_far more x y e = record { steps = x.steps + y.steps; walk = walk_on old mid x.steps x.walk y.steps new y.walk; some = λ _. (let some : 0 < y.steps = y.some e in omega arith); none = λ no. absurd (let not : true ≡ false = no in cc) }
+
+  pub carried_all : (k : ℕ) (old mid new : State V) (so_far more : Bool) → Went b old mid so_far → Carries b Everyone k mid new more → more ≡ false → Carries b Everyone k old new so_far
+  carried_all k old mid new so_far more went last e = record {
+    went = subst (λ (m : State V). Went b old m so_far) (sym (last.went.none e)) went;
+    no_send = λ unmoved everyone. subst (λ (m : State V). IsRefusedIn b m (Send k)) (went.none unmoved) (last.no_send e everyone);
+    no_poll = λ unmoved everyone. subst (λ (m : State V). IsRefusedIn b m (Poll k)) (went.none unmoved) (last.no_poll e everyone);
+  }
+
+  pub whoever : (awake : Awake) (k : ℕ) (old new : State V) (moved : Bool) → Carries b Everyone k old new moved → Carries b awake k old new moved
+  whoever awake k old new moved x = record { went = x.went; no_send = λ unmoved _. x.no_send unmoved refl; no_poll = λ unmoved _. x.no_poll unmoved refl }
 
   -- one component more, and one channel more
   pub none_run : (awake : Awake) (mesh : State V) (moved : Bool) → moved ≡ false → RunsEach b awake 0 mesh mesh moved

@@ -3,6 +3,7 @@ ghost use Rattle.cs_base.specs.declared.link.Link.{Link};
 ghost use Rattle.cs_base.specs.declared.port_kind.Via.TheVariants.{Queue};
 ghost use Rattle.sync_laws.specs.Whole.{HaveEnded};
 ghost use Rattle.run_steps.specs.declared.step.Step.TheVariants.{Event, Send as Sent, Poll};
+ghost use Rattle.mesh_core.specs.declared.serial.Awake.TheVariants.{Everyone};
 
 use crate::build::{queues_of, runners_of, ways_of};
 use crate::outcome::{Room, count_all, finish_all};
@@ -191,7 +192,7 @@ impl<V: Device> Mesh<V> {
         Ok(woken)
     }
 
-    /// Sends the first message that waits on a channel, and receives the first that is in its queue.
+    /// A channel's turn, if one of its ends is awake.
     fn carry(&mut self, awake: Awake, channel: usize, woken: Woken) -> Result<Woken, NoMemory>
         requires { IsMesh V.behaviour V.settled self.old }
         ensures { IfOk result (λ then. (moved : Bool) × Carries V.behaviour awake channel self.old self.new moved × (then.moved ≡ woken.moved || moved)) }
@@ -203,9 +204,35 @@ impl<V: Device> Mesh<V> {
         if !awake.touches(way) {
             return Ok(woken);
         }
+        let moved = self.carry_all(channel)?;
+        Ok(woken.along(moved, way))
+    }
+
+    /// Sends the messages that wait on a channel and receives those in its queue, for as long as either may be.
+    fn carry_all(&mut self, channel: usize) -> Result<bool, NoMemory>
+        requires { IsMesh V.behaviour V.settled self.old }
+        ensures { IfOk result (Carries V.behaviour Everyone channel self.old self.new) }
+    {
+        let mut moved = false;
+        let mut seen = Seen::of(self);
+        'messages: loop {
+            let more = self.carry_one(channel)?;
+            if !more {
+                return Ok(moved);
+            }
+            moved = true;
+            seen = Seen::of(self);
+        }
+    }
+
+    /// Sends the first message that waits on a channel, and receives the first that is in its queue.
+    fn carry_one(&mut self, channel: usize) -> Result<bool, NoMemory>
+        requires { IsMesh V.behaviour V.settled self.old }
+        ensures { IfOk result (Carries V.behaviour Everyone channel self.old self.new) }
+    {
         let sent = self.send(channel);
         let got = self.poll(channel)?;
-        Ok(woken.along(sent, way).along(got, way))
+        Ok(sent || got)
     }
 
     /// Whether all components have ended.
