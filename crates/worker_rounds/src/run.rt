@@ -11,6 +11,11 @@ use std::sync::Wait;
 use std::thread;
 use std::thread::Threads;
 
+/// The quiet rounds in a row of a worker on a thread of its own, each of 64 passes or more, and of one that shares its thread.
+const ALONE: u32 = 4096;
+
+const SHARED: u32 = 1;
+
 /// How many threads are of use: one for each processor, or one where that can't be told.
 fn processors(rt: &impl Threads) -> usize
     ensures { 1 ≤ result }
@@ -21,11 +26,17 @@ fn processors(rt: &impl Threads) -> usize
     }
 }
 
-fn work_one<M: Member, G: Gate>(worker: &mut Worker<M>, alloc: Global, gate: &G)
+/// How many quiet rounds in a row a worker makes before it ends: as many as last for many milliseconds where each has a
+/// thread of its own, and one where others wait for its thread.
+fn quiet_rounds(workers: usize, threads: usize) -> u32 {
+    if workers <= threads { ALONE } else { SHARED }
+}
+
+fn work_one<M: Member, G: Gate>(worker: &mut Worker<M>, alloc: Global, gate: &G, quiet_rounds: u32)
     requires { IsSound M.fits worker.old }
     ensures { Worked M.does M.fails M.fits worker.old worker.new }
 {
-    worker.work(alloc, gate);
+    worker.work(alloc, gate, quiet_rounds);
 }
 
 /// Each worker makes rounds, on threads where they can be had.
@@ -40,11 +51,12 @@ fn work_all<R: Threads + Sync, M: Member + Send, G: Gate + Sync>(
     requires sound { AreSound M.fits workers.old }
     ensures { AllWorked M.does M.fails M.fits workers.old workers.new }
 {
+    let quiet_rounds = quiet_rounds(workers.len(), threads);
     thread::for_each_mut(
         rt,
         workers,
         threads,
-        &|_, worker| work_one(worker, alloc, gate),
+        &|_, worker| work_one(worker, alloc, gate, quiet_rounds),
     );
 }
 

@@ -1,4 +1,4 @@
-ghost use Rattle.std.specs.Prelude.{◌≡◌, ◌↔◌, None, IsTrue};
+ghost use Rattle.std.specs.Prelude.{◌≡◌, ◌↔◌, ◌++◌, ◌∷◌, [], None, option_to_list, IsTrue, IfNone, IfErr, OnOk};
 ghost use Rattle.worker_rounds.specs.Passes.{HaveEnded};
 ghost use Rattle.worker_rounds.specs.Rounds.{Rounded, Worked, IsSound};
 
@@ -6,14 +6,12 @@ use crate::member::Member;
 use crate::mesh_bad::MeshBad;
 use crate::passes::{all_ended, passes};
 use cs_base::Gate;
+use cs_base::no_memory::NoMemory;
 use std::alloc::Global;
 use std::marker::Model;
 
-/// The most rounds that a worker makes within one for-each, and how many quiet ones in a row it makes at most: each has 64
-/// passes at least, so that they last for many milliseconds.
+/// The most rounds that a worker makes within one for-each.
 const MOST_ROUNDS: u32 = 1 << 20;
-
-const QUIET_ROUNDS: u32 = 4096;
 
 /// How a round ended.
 #[derive(Clone, Copy, Debug, PartialEq, Eq)]
@@ -61,12 +59,35 @@ impl<M> Worker<M> {
         self.fault
     }
 
+    /// Takes its last member out.
+    pub fn take_last(&mut self) -> Option<M>
+        ensures last { self.old.members ≡ self.new.members ++ option_to_list result }
+        ensures none { IfNone result (self.old.members ≡ []) }
+        ensures number { self.new.number ≡ self.old.number }
+        ensures fault { self.new.fault ≡ self.old.fault }
+    {
+        self.members.pop()
+    }
+
     /// Its members.
     pub fn into_members(self) -> Vec<M>
         ensures { result.items ≡ self.members }
     {
         let Worker { members, .. } = self;
         members
+    }
+}
+
+impl<M: Drop> Worker<M> {
+    /// One member more, behind the others. Where memory is wanting, all stays as it was.
+    pub fn add(&mut self, member: M) -> Result<(), NoMemory>
+        ensures members { OnOk result (self.new.members ≡ self.old.members ++ member ∷ []) }
+        ensures number { self.new.number ≡ self.old.number }
+        ensures fault { self.new.fault ≡ self.old.fault }
+        ensures failed { IfErr result (λ _. self.new.members ≡ self.old.members) }
+    {
+        self.members.push(member)?;
+        Ok(())
     }
 }
 
@@ -96,8 +117,8 @@ impl<M: Member> Worker<M> {
         all_ended(self.members.as_slice())
     }
 
-    /// Makes rounds, until one meets a fault, or is quiet and all members have ended, or many in a row are quiet.
-    pub(crate) fn work<G: Gate>(&mut self, alloc: Global, gate: &G)
+    /// Makes rounds, until one meets a fault, or is quiet and all members have ended, or so many in a row are quiet.
+    pub(crate) fn work<G: Gate>(&mut self, alloc: Global, gate: &G, quiet_rounds: u32)
         requires { IsSound M.fits self.old }
         ensures { Worked M.does M.fails M.fits self.old self.new }
     {
@@ -108,23 +129,17 @@ impl<M: Member> Worker<M> {
                 return;
             }
             quiet = quiet_after(end, quiet);
-            if quiet == QUIET_ROUNDS || (quiet > 0 && self.ended()) {
+            if quiet == quiet_rounds || (quiet > 0 && self.ended()) {
                 return;
             }
         }
     }
 }
 
-/// How many rounds in a row were quiet, up to the most.
+/// How many rounds in a row were quiet.
 fn quiet_after(end: RoundEnd, quiet: u32) -> u32 {
     match end {
-        RoundEnd::Quiet => {
-            if quiet < QUIET_ROUNDS {
-                quiet + 1
-            } else {
-                quiet
-            }
-        }
+        RoundEnd::Quiet => quiet.saturating_add(1),
         RoundEnd::Spent | RoundEnd::Faulted => 0,
     }
 }
