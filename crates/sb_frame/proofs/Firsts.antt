@@ -91,7 +91,7 @@ one_last kind messages (Some a) (Some b) x y =
     let lasts : x.last ∷ [] ≡ y.last ∷ [] = sym (drop_at x.earlier (x.last ∷ []) (length y.earlier) long) ∙ ap (drop (length y.earlier)) both ∙ drop_at y.earlier (y.last ∷ []) (length y.earlier) refl in
     ap Some (sym x.last_at ∙ ap (λ (m : Msg). m.at) (one_head x.last y.last lasts) ∙ y.last_at)
 
-each_mid : {A : Type 0} (P : A → Type 0) (xs : List A) (x : A) (more : List A) → AllByRecursion P (xs ++ x ∷ more) → P x
+pub each_mid : {A : Type 0} (P : A → Type 0) (xs : List A) (x : A) (more : List A) → AllByRecursion P (xs ++ x ∷ more) → P x
 each_mid P [] x more all = all.0
 each_mid P (y ∷ xs) x more all = each_mid P xs x more all.1
 
@@ -132,21 +132,24 @@ allowed_first : (start : ℕ) (m : Msg) → is_intro m.body ≡ true → rule_fa
 allowed_first start m first = rw first refl
 
 -- against a message that goes on a stream the rule says nothing
-pub rule_allows : (kind : PortKind) (messages : List Msg) (last after : Option ℕ) (start : ℕ) (m : Msg) (more : List Msg) → KeepsRule kind messages last → KeepsRule kind (messages ++ m ∷ more) after → rule_fault last start m ≡ None
-rule_allows kind messages last None start m more keeps none = absurd (not_none messages m more none)
-rule_allows kind messages None (Some after) start m more none ends =
-    let s : IsStream kind (m ∷ more) = subst (λ l. IsStream kind (l ++ m ∷ more)) none ends.stream in
+pub stream_allows : (kind : PortKind) (messages : List Msg) (last : Option ℕ) (start : ℕ) (m : Msg) (more : List Msg) → KeepsRule kind messages last → IsStream kind (messages ++ m ∷ more) → rule_fault last start m ≡ None
+stream_allows kind messages None start m more none stream =
+    let s : IsStream kind (m ∷ more) = subst (λ l. IsStream kind (l ++ m ∷ more)) none stream in
     let e = heads m s.first more s.later s.parts in
     allowed_first start m (subst (λ (n : Msg). is_intro n.body ≡ true) (sym e.0) s.introduced)
-rule_allows kind messages (Some last) (Some after) start m more ends also =
-    let s : IsStream kind ((ends.earlier ++ ends.last ∷ []) ++ m ∷ more) = subst (λ l. IsStream kind (l ++ m ∷ more)) ends.parts also.stream in
+stream_allows kind messages (Some last) start m more ends stream =
+    let s : IsStream kind ((ends.earlier ++ ends.last ∷ []) ++ m ∷ more) = subst (λ l. IsStream kind (l ++ m ∷ more)) ends.parts stream in
     let le : ends.last.at ≤ m.at = not_before kind ends.earlier ends.last m more s in
     allowed_later last start m (subst (λ n. n ≤ m.at) ends.last_at le) (no_later_intro kind ends.earlier ends.last m more s)
+
+pub rule_allows : (kind : PortKind) (messages : List Msg) (last after : Option ℕ) (start : ℕ) (m : Msg) (more : List Msg) → KeepsRule kind messages last → KeepsRule kind (messages ++ m ∷ more) after → rule_fault last start m ≡ None
+rule_allows kind messages last None start m more keeps none = absurd (not_none messages m more none)
+rule_allows kind messages last (Some after) start m more keeps also = stream_allows kind messages last start m more keeps also.stream
 
 -- ---- a stream's first fault
 
 -- what is refused behind some messages, and messages that go on there
-never_on : (kind : PortKind) (messages longer : List Msg) (last after : Option ℕ) (start : ℕ) (begun more : List ℕ) (b : FrameBad) → KeepsRule kind messages last → KeepsRule kind longer after → IsRefused kind last start begun b → GoesOn kind messages (begun ++ more) longer → ⊥
+pub never_on : (kind : PortKind) (messages longer : List Msg) (last after : Option ℕ) (start : ℕ) (begun more : List ℕ) (b : FrameBad) → KeepsRule kind messages last → KeepsRule kind longer after → IsRefused kind last start begun b → GoesOn kind messages (begun ++ more) longer → ⊥
 never_on kind messages longer last after start begun more b keeps also refused on =
     let allowed = rule_allows kind messages last after start on.message on.more keeps (subst (λ l. KeepsRule kind l after) on.parts also) in
     refused_not_framed kind last start begun more on.frame on.rest on.message b refused on.is_frame on.bytes allowed
@@ -165,7 +168,7 @@ one_first kind bytes a b x y =
       ]
     ]
 
-open_not_frame : (bytes frame rest : List ℕ) → IsOpen bytes → bytes ≡ frame ++ rest → IsWhole frame → ⊥
+pub open_not_frame : (bytes frame rest : List ℕ) → IsOpen bytes → bytes ≡ frame ++ rest → IsWhole frame → ⊥
 open_not_frame bytes frame rest opened parts whole =
     let m : length frame ≡ 4 + stated frame = whole.measured in
     let long : length bytes ≡ length frame + length rest = ap length parts ∙ length-append frame rest in

@@ -47,7 +47,7 @@ one_whole a b x y wa wb e =
       rest = sym (drop_at a x (length b) long) ∙ ap (drop (length b)) e ∙ drop_at b y (length b) refl;
     }
 
-one_of_two : (kind : PortKind) (m n : Msg) (a b : List ℕ) → IsFrame kind m a → IsFrame kind n b → a ≡ b → m ≡ n
+pub one_of_two : (kind : PortKind) (m n : Msg) (a b : List ℕ) → IsFrame kind m a → IsFrame kind n b → a ≡ b → m ≡ n
 one_of_two kind m n a b fa fb e =
     let there : Spells kind m (drop 4 b) = subst (λ l. Spells kind m (drop 4 l)) e fa.spelled in
     one_message m n (drop 4 b) there.spelled fb.spelled.spelled

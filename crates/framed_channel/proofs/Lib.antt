@@ -1,0 +1,4 @@
+pub mod FrameLists
+pub mod Faultless
+pub mod Kept
+pub mod Way

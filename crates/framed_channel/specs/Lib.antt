@@ -1,0 +1,6 @@
+pub mod Channel
+pub mod Steps
+pub mod Standing
+pub mod EndLaws
+pub mod UnderWay
+pub mod Laws
