@@ -2,3 +2,4 @@ pub mod FrameLists
 pub mod Faultless
 pub mod Kept
 pub mod Way
+pub mod Counting

@@ -13,9 +13,10 @@ use Rattle.framed_channel.specs.Steps.{MayPut, Ran}
 use Rattle.framed_channel.specs.Standing.{CarriesFor}
 use Rattle.framed_channel.specs.UnderWay.{IsUnderWay, NothingIsLost, CanGoOn}
 use Rattle.framed_channel.specs.UnderWay.CanGoOn.{by_take, by_move, by_put, by_receipt}
-use Rattle.framed_channel.specs.Laws.{RanWell}
+use Rattle.framed_channel.specs.Laws.{RanWell, KeepsCarrying}
 use Rattle.framed_channel.proofs.FrameLists.{GoOnWith, go_on, frames_of, one_list}
-use Rattle.framed_channel.proofs.Kept.{begins, a_run_carries}
+use Rattle.framed_channel.proofs.Kept.{begins, a_take_carries, a_move_carries, a_put_carries, a_run_carries}
+use Rattle.framed_channel.specs.EndLaws.{a_send_carries, a_receipt_carries}
 
 -- the bytes that left the pipe and aren't read as whole frames, and then those in it, are frames of what was taken last
 record IsOnTheWay (c : Framed) (taken put : List Msg) : Type 0 where
@@ -64,6 +65,15 @@ ran_well kind slots a b sent received place unused ran =
     let carries : CarriesFor b sent received = a_run_carries a b sent received (begins kind slots a place unused) ran in
     record { carries = carries; whole = nothing_lost b sent received carries }
 
+pub keeps_carrying : (c : Framed) (sent received : List Msg) → CarriesFor c sent received → KeepsCarrying c sent received
+keeps_carrying c sent received x = record {
+  take = λ b takes. a_take_carries c b sent received takes x;
+  move = λ b n moves. a_move_carries c b n sent received moves x;
+  put = λ b puts. a_put_carries c b sent received puts x;
+  send = λ b m stream sends. a_send_carries c b m sent received sends stream x;
+  receipt = λ b m gives. a_receipt_carries c b m sent received gives x;
+}
+
 -- ---- it can go on
 
 -- an open frame holds no whole one
@@ -71,7 +81,7 @@ none_inside : (kind : PortKind) (inside : List Msg) (begun bytes : List ℕ) →
 none_inside kind [] begun bytes opened is leads = refl
 none_inside kind (m ∷ inside) begun bytes opened is leads = absurd (open_not_frame begun leads.0 leads.1 opened (sym is ∙ leads.2) leads.3.whole)
 
-all_received : (c : Framed) (sent received : List Msg) → CarriesFor c sent received → c.near.held ≡ [] → c.pipe ≡ [] → c.far.held ≡ [] → c.frames.place.waiting ≡ [] → sent ≡ received
+pub all_received : (c : Framed) (sent received : List Msg) → CarriesFor c sent received → c.near.held ≡ [] → c.pipe ≡ [] → c.far.held ≡ [] → c.frames.place.waiting ≡ [] → sent ≡ received
 all_received c sent received x near pipe far waiting =
     let way : IsOnTheWay c x.taken x.put = on_the_way c sent received x in
     let bytes : c.frames.begun ++ c.pipe ≡ c.frames.begun = ap (λ l. c.frames.begun ++ l) pipe ∙ append-nil c.frames.begun in

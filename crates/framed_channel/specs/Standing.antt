@@ -13,8 +13,9 @@ pub record IsSound (c : Framed) : Type 0 where
   pub far_kind : c.far.kind ≡ c.near.kind
   pub place : 1 ≤ c.far.slots
 
--- the first of what was sent were taken, the bytes that left the pipe and then those in it are their frames, and what
--- was read of the bytes that left it was put into the far queue as far as it was, and received out of that
+-- the first of what was sent were taken; the bytes that left the pipe and then those in it are their
+-- frames; the first of the messages of those that left it were put into the far queue, and the first
+-- of these received
 pub record CarriesFor (c : Framed) (sent received : List Msg) : Type 0 where
   pub sound : IsSound c
   pub taken : List Msg
@@ -40,7 +41,8 @@ pub record IsCarrying (c : Framed) : Type 0 where
   pub received : List Msg
   pub both : CarriesFor c sent received
 
--- a piece is the next of the frames of messages that may be sent, and the count of bytes has room for it
+-- a piece is the next of the frames of messages that may be sent, and the count of bytes has room
+-- for it
 pub record MayRead (frames : Deframing) (piece : List ℕ) : Type 0 where
   pub no_fault : frames.fault ≡ None
   pub stream : List ℕ

@@ -42,7 +42,8 @@ TakesFrom near pipe near' pipe' false = TakesNone near pipe near' pipe'
 pub record Reads (a : Deframing) (piece : List ℕ) (b : Deframing) : Type 0 where
   pub kind : b.place.kind ≡ a.place.kind
   pub no_fault : b.fault ≡ None
-  pub stands : (stream : List ℕ) (given : List Msg) → Stands a stream given → Stands b (stream ++ piece) given
+  pub stands : (stream : List ℕ) (given : List Msg)
+      → Stands a stream given → Stands b (stream ++ piece) given
 
 -- so many bytes at the front of the pipe were read
 pub record Moves (n : ℕ) (a b : Framed) : Type 0 where
@@ -82,11 +83,18 @@ pub record Empties (a b : Framed) : Type 0 where
   pub none : a.far.held ≡ []
   pub unchanged : b ≡ a
 
--- whatever steps from a channel on, in which these messages were sent, as the stream rule allows, and these received
+-- whatever steps from a channel on, in which these messages were sent, as the stream rule allows,
+-- and these received
 pub data Ran (a : Framed) : List Msg → List Msg → Framed → Type 0 where
   none_yet : Ran a [] [] a
-  and_takes : (sent received : List Msg) (b c : Framed) → Ran a sent received b → Takes b c → Ran a sent received c
-  and_moves : (sent received : List Msg) (b c : Framed) (n : ℕ) → Ran a sent received b → Moves n b c → Ran a sent received c
-  and_puts : (sent received : List Msg) (b c : Framed) → Ran a sent received b → Puts b c → Ran a sent received c
-  and_sends : (sent received : List Msg) (b c : Framed) (m : Msg) → Ran a sent received b → IsStream b.near.kind (sent ++ m ∷ []) → Sends b m c → Ran a (sent ++ m ∷ []) received c
-  and_gives : (sent received : List Msg) (b c : Framed) (m : Msg) → Ran a sent received b → Gives b m c → Ran a sent (received ++ m ∷ []) c
+  and_takes : (sent received : List Msg) (b c : Framed)
+      → Ran a sent received b → Takes b c → Ran a sent received c
+  and_moves : (sent received : List Msg) (b c : Framed) (n : ℕ)
+      → Ran a sent received b → Moves n b c → Ran a sent received c
+  and_puts : (sent received : List Msg) (b c : Framed)
+      → Ran a sent received b → Puts b c → Ran a sent received c
+  and_sends : (sent received : List Msg) (b c : Framed) (m : Msg)
+      → Ran a sent received b → IsStream b.near.kind (sent ++ m ∷ []) → Sends b m c
+      → Ran a (sent ++ m ∷ []) received c
+  and_gives : (sent received : List Msg) (b c : Framed) (m : Msg)
+      → Ran a sent received b → Gives b m c → Ran a sent (received ++ m ∷ []) c

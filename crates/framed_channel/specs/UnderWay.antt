@@ -9,7 +9,8 @@ use Rattle.framed_channel.specs.Steps.{MayTake, MayMove, MayPut}
 pub record InBytes (c : Framed) (messages : List Msg) : Type 0 where
   pub frames : AreFrames c.near.kind messages (c.frames.begun ++ c.pipe)
 
--- the messages under way, from the far end on: in the far queue, read, as bytes, and in the near queue
+-- the messages under way, from the far end on: in the far queue, read, as bytes, and in the near
+-- queue
 pub record IsUnderWay (c : Framed) (messages : List Msg) : Type 0 where
   pub inside : List Msg
   pub in_bytes : InBytes c inside

@@ -14,7 +14,8 @@ use sb_message::Msg;
 use std::alloc::Global;
 use std::marker::Model;
 
-/// A channel over a byte stream.
+/// A channel over a byte stream, on one thread. Its ends are a queue into which messages are pushed and one from which
+/// they are popped; between them messages go as frames through a pipe, and a deframer reads the bytes that leave it.
 #[derive(Debug, Drop)]
 pub struct FramedChannel {
     near: PlainQueue,
@@ -31,7 +32,13 @@ impl Model for FramedChannel {
 
     ghost Value = { Framed };
 
-    ghost view = { λ c. record { near = c.near; pipe = c.pipe; frames = c.frames; moved = c.moved; far = c.far } };
+    ghost view = { λ c. record {
+      near = c.near;
+      pipe = c.pipe;
+      frames = c.frames;
+      moved = c.moved;
+      far = c.far;
+    } };
 
     ghost invariant = { λ c. c.far.slots ≡ c.slots };
 }
@@ -54,7 +61,8 @@ impl FramedChannel {
 
     /// The next message of the near queue goes to the end of the pipe as a frame. False exactly where there is none.
     pub fn take(&mut self) -> Result<bool, NoMemory>
-        ensures ok { IfOk result (Makes (MayTake self.old) (Takes self.old self.new) self.old self.new) }
+        ensures ok { IfOk result
+            (Makes (MayTake self.old) (Takes self.old self.new) self.old self.new) }
         ensures err { OnErr result (self.new ≡ self.old) }
     {
         self.pipe.take_from(&mut self.near)

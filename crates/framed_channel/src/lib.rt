@@ -8,4 +8,10 @@ mod pipe;
 mod reading;
 
 pub use channel::FramedChannel;
-pub use laws::{no_channel_is_stuck, nothing_is_lost, one_list_is_under_way};
+pub use laws::{
+    each_step_keeps_what_is_carried, no_channel_is_stuck, nothing_is_lost, one_list_is_under_way,
+    so_many_steps_are_left,
+};
+
+#[cfg(test)]
+mod tests;
