@@ -17,6 +17,8 @@ use Rattle.sync_drive.specs.Tries.{EndAt, IsTried, AreTried}
 use Rattle.sync_drive.specs.Tries.IsTried.{it_went, it_stayed, untouched}
 use Rattle.sync_drive.proofs.Fit.{turn_stands}
 use Rattle.sync_drive.proofs.Moves.{turn_tries}
+use Rattle.sync_drive.proofs.Plans.{turn_keeps}
+use Rattle.sync_laws.proofs.Steps.{KeepsPlans}
 use Rattle.worker_rounds.specs.Passes.{Went, EachWent}
 use Rattle.worker_rounds.specs.Passes.Went.{stood, turned}
 use Rattle.worker_rounds.specs.Rounds.{Work, Worked}
@@ -27,7 +29,6 @@ use Rattle.worker_rounds.proofs.Working.{all_in, some_none}
 use Rattle.run_threads.specs.declared.part.Part.{Part}
 use Rattle.run_threads.specs.Parts.{tx_kind, tx_stands, tx_pushes, tx_refuses, rx_kind, rx_stands, rx_pops, rx_empties, PartFits, PartDid, PartFailed}
 use Rattle.run_threads.specs.CrewOf.{members_of, IsPartOf, HasPart, IsCrewOf}
-use Rattle.run_threads.proofs.Kept.{SamePlan, turn_keeps}
 
 tx_name : (before after : TxEnd) → IsTried tx_pushes tx_refuses before after → after.seat.queue ≡ before.seat.queue
 tx_name before after (it_went m pushed) = ap (λ (s : Sender). s.queue) pushed
@@ -58,15 +59,15 @@ module _ {V : Type 0} (b : Behaviour V) (settled : V → ℕ → Type 0) (lawful
   did_keeps c start old new is did = record {
     component = did.component ∙ is.component;
     stands = turn_stands b settled lawful tx_kind tx_stands rx_kind rx_stands rx_pops rx_empties (λ x y m received popped of. pop_adds x.seat y.seat m received popped of) (λ x y m received popped of. pop_streams x.seat y.seat m received popped of) (λ x y m popped. pop_kind x.seat y.seat m popped) (λ x y received emptied of. empty_keeps x.seat y.seat received emptied of) (λ x y emptied. empty_kind x.seat y.seat emptied) tx_pushes tx_refuses (λ x y m sent pushed of stream. push_adds x.seat y.seat m sent pushed of) (λ x y m pushed. push_kind x.seat y.seat m pushed) (λ x y sent refused of. refusal_keeps x.seat y.seat sent refused of) (λ x y refused. refusal_kind x.seat y.seat refused) start old.driver.runner new.driver.runner old.driver.txs.items new.driver.txs.items old.driver.rxs.items new.driver.rxs.items did.turn is.stands did.turned;
-    end_is = plan.end_is ∙ is.end_is;
-    plans = plan.plans ∙ is.plans;
+    end_is = plan.same_end ∙ is.end_is;
+    plans = plan.outs ∙ is.plans;
     departs = λ k ch at from. ap (λ (l : List ℕ). slice_get l ch.from.port) did.departures ∙ is.departs k ch at from;
     arrives = λ k ch at to. ap (λ (l : List ℕ). slice_get l ch.to.port) did.arrivals ∙ is.arrives k ch at to;
     sends_on = λ k ch one at from there. (let was : WasOf (λ (x : TxEnd). x.seat.queue) old.driver.txs.items ch.from.port one.seat.queue = was_of (λ (x : TxEnd). x.seat.queue) tx_pushes tx_refuses tx_name old.driver.txs.items new.driver.txs.items tries.0 ch.from.port one there in is.sends_on k ch was.before at from was.there ∙ ap Some (sym was.same));
     receives_on = λ k ch one at to there. (let was : WasOf (λ (x : RxEnd). x.seat.queue) old.driver.rxs.items ch.to.port one.seat.queue = was_of (λ (x : RxEnd). x.seat.queue) rx_pops rx_empties rx_name old.driver.rxs.items new.driver.rxs.items tries.1 ch.to.port one there in is.receives_on k ch was.before at to was.there ∙ ap Some (sym was.same));
   }
     where
-      plan : SamePlan old.driver.runner new.driver.runner
+      plan : KeepsPlans old.driver.runner new.driver.runner
       plan = turn_keeps b tx_pushes tx_refuses rx_pops rx_empties old.driver.runner new.driver.runner old.driver.txs.items new.driver.txs.items old.driver.rxs.items new.driver.rxs.items did.turn did.turned
 
       tries : AreTried tx_pushes tx_refuses old.driver.txs.items new.driver.txs.items × AreTried rx_pops rx_empties old.driver.rxs.items new.driver.rxs.items

@@ -64,7 +64,7 @@ module _ {X : Type 0} (slots : List (Option X)) (places : List ℕ) where
                 let same_item : x ≡ y = same_Some x y (sym (get_last items x) ∙ ap (slice_get (items ++ x ∷ [])) (many ∙ sym same) ∙ got_in) in
                 ap (slice_get slots) same_place ∙ sym untouched ∙ found ∙ ap (λ (z : X). Some (Some z)) same_item
 
-get_middle : {X : Type 0} (xs : List X) (x : X) (ys : List X) → slice_get (xs ++ x ∷ ys) (length xs) ≡ Some x
+pub get_middle : {X : Type 0} (xs : List X) (x : X) (ys : List X) → slice_get (xs ++ x ∷ ys) (length xs) ≡ Some x
 get_middle [] x ys = refl
 get_middle (y ∷ xs) x ys = get_middle xs x ys
 

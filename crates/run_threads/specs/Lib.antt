@@ -6,3 +6,4 @@ pub mod Laws
 pub mod Seats
 pub mod Numbers
 pub mod Ends
+pub mod Stock

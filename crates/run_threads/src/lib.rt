@@ -8,6 +8,7 @@ mod numbers;
 pub mod part;
 pub mod queues;
 mod seats;
+mod stock;
 
 pub use crew::{Crew, run_mesh};
 pub use laws::{an_ended_crew_leaves_the_global_run, rounds_keep_a_crew_standing};

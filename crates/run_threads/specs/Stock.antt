@@ -1,0 +1,32 @@
+-- What the parts of a crew are made from: the sides of the queues, each in a slot by the number of
+-- its channel, until the part of its component is made.
+use Rattle.std.specs.Prelude.{ℕ, ◌≡◌, ◌≤◌, List, length, slice_get, Option, Some}
+use Rattle.mesh_core.specs.declared.way.Seat.{Seat}
+use Rattle.slot_queue.specs.Ends.{Named}
+
+-- the side of a channel's queue, unused, is in its slot
+pub record HasSide {S : Type 0} (side_of : Named → S) (queues : List Named)
+    (slots : List (Option S)) (number : ℕ) : Type 0 where
+  pub queue : Named
+  pub named : slice_get queues number ≡ Some queue
+  pub there : slice_get slots number ≡ Some (Some (side_of queue))
+
+-- so are those of all channels at ports of this component and of later ones
+pub record HaveSides {S : Type 0} (side_of : Named → S) (queues : List Named) (seats : List Seat)
+    (slots : List (Option S)) (component : ℕ) : Type 0 where
+  pub each : (number : ℕ) (one : Seat) → slice_get seats number ≡ Some one
+      → component ≤ one.component → HasSide side_of queues slots number
+
+-- an end is of this channel's queue, and unused
+pub record IsFresh {S : Type 0} (side_of : Named → S) (queues : List Named) (number : ℕ)
+    (seat : S) : Type 0 where
+  pub queue : Named
+  pub named : slice_get queues number ≡ Some queue
+  pub unused : seat ≡ side_of queue
+
+-- ends of the channels with these numbers, each unused
+pub record AreFresh {E S : Type 0} (seat_of : E → S) (side_of : Named → S) (queues : List Named)
+    (numbers : List ℕ) (ends : List E) : Type 0 where
+  pub as_many : length ends ≡ length numbers
+  pub each : (port number : ℕ) (one : E) → slice_get numbers port ≡ Some number
+      → slice_get ends port ≡ Some one → IsFresh side_of queues number (seat_of one)
