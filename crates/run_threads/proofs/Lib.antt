@@ -4,3 +4,8 @@ pub mod Crews
 pub mod Final
 pub mod SeatsTaken
 pub mod Stocked
+pub mod Wires
+pub mod Dealt
+pub mod Assembled
+pub mod Placed
+pub mod InTurn

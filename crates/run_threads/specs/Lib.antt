@@ -7,3 +7,5 @@ pub mod Seats
 pub mod Numbers
 pub mod Ends
 pub mod Stock
+pub mod Dealing
+pub mod Building

@@ -1,7 +1,9 @@
 //! A run on threads: the queues between the components, the workers that turn them, and what is left when all have ended.
 #![tactic(auto)]
 
+mod build;
 pub mod crew;
+mod dealing;
 mod ends;
 pub mod laws;
 mod numbers;

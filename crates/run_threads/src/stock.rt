@@ -1,18 +1,23 @@
-//! The ends of a component's channels, made of the sides that are in slots.
-ghost use Rattle.std.specs.Prelude.{◌≤◌, ◌+◌, length, IfOk};
+//! What the parts of a crew are made from.
+ghost use Rattle.std.specs.Prelude.{◌≡◌, ◌≤◌, ◌+◌, length, IfOk};
 ghost use Rattle.slot_queue.specs.declared.ends.TxEnd.{TxEnd as Tx};
 ghost use Rattle.slot_queue.specs.declared.ends.RxEnd.{RxEnd as Rx};
 ghost use Rattle.run_threads.specs.Numbers.{HaveNumbers, AreNumbers};
 ghost use Rattle.run_threads.specs.Queues.{its_sender, its_receiver};
-ghost use Rattle.run_threads.specs.Stock.{HaveSides, AreFresh};
+ghost use Rattle.run_threads.specs.Stock.{HaveSides, AreFresh, IsNewPart};
 
 use crate::ends::{rx_ends, tx_ends};
 use crate::numbers::numbers_of;
+use crate::part::Part;
 use crate::seats::take_at;
+use cs_base::items::Items;
 use cs_base::no_memory::NoMemory;
+use device_api::Device;
 use mesh_core::way::Seat;
 use slot_queue::{Consumer, Producer, RxEnd, SlotQueue, TxEnd};
 use std::alloc::Global;
+use sync_drive::Driver;
+use sync_rule::Runner;
 
 /// Ends of channels, by port, and the numbers of these channels.
 #[derive(Drop)]
@@ -71,4 +76,72 @@ fn take_rxs<'q>(
     let sides = take_at(alloc, slots, places)?;
     let ends = rx_ends(alloc, queues, places, sides)?;
     Ok(Numbered { numbers, ends })
+}
+
+/// A part of these.
+fn part_of<'q, V: Device>(
+    component: u32,
+    runner: Runner<V>,
+    outlets: Numbered<TxEnd<'q>>,
+    inlets: Numbered<RxEnd<'q>>,
+) -> Part<'q, V>
+    ensures component { result.component ≡ component }
+    ensures runner { result.driver.runner ≡ runner }
+    ensures departures { result.departures ≡ outlets.entry.numbers.items }
+    ensures arrivals { result.arrivals ≡ inlets.entry.numbers.items }
+    ensures txs { result.driver.txs ≡ outlets.entry.ends }
+    ensures rxs { result.driver.rxs ≡ inlets.entry.ends }
+{
+    Part {
+        component,
+        driver: Driver::new(runner, outlets.ends, inlets.ends),
+        departures: Items::from_vec(outlets.numbers),
+        arrivals: Items::from_vec(inlets.numbers),
+    }
+}
+
+/// The ports out of which the channels lead, and those into which they lead, by the channels' numbers; and the sides of the
+/// queues in slots by the same numbers, until the parts of their components are made.
+#[derive(Drop)]
+pub(crate) struct Stock {
+    pub(crate) froms: Vec<Seat>,
+    pub(crate) tos: Vec<Seat>,
+    pub(crate) senders: Vec<Option<Producer>>,
+    pub(crate) receivers: Vec<Option<Consumer>>,
+}
+
+impl Stock {
+    /// The part of a component with so many ports, made after those of the components before it.
+    pub(crate) fn part<'q, V: Device>(
+        &mut self,
+        alloc: Global,
+        queues: &'q [SlotQueue],
+        component: u32,
+        ports: u32,
+        runner: Runner<V>,
+    ) -> Result<Part<'q, V>, NoMemory>
+        requires froms { HaveNumbers self.old.froms.items component ports }
+        requires tos { HaveNumbers self.old.tos.items component ports }
+        requires few { (length self.old.froms.items ≤ 2048) × (length self.old.tos.items ≤ 2048) }
+        requires senders { HaveSides its_sender queues.now
+            self.old.froms.items self.old.senders.items component }
+        requires receivers { HaveSides its_receiver queues.now
+            self.old.tos.items self.old.receivers.items component }
+        ensures part { IfOk result (IsNewPart queues.now
+            self.old.froms.items self.old.tos.items component ports runner) }
+        ensures froms { self.new.froms ≡ self.old.froms }
+        ensures tos { self.new.tos ≡ self.old.tos }
+        ensures senders { IfOk result (λ _. HaveSides its_sender queues.now
+            self.old.froms.items self.new.senders.items (component + 1)) }
+        ensures receivers { IfOk result (λ _. HaveSides its_receiver queues.now
+            self.old.tos.items self.new.receivers.items (component + 1)) }
+    {
+        let froms = self.froms.as_slice();
+        let tos = self.tos.as_slice();
+        let senders = self.senders.as_mut_slice();
+        let receivers = self.receivers.as_mut_slice();
+        let outlets = take_txs(alloc, queues, froms, senders, component, ports)?;
+        let inlets = take_rxs(alloc, queues, tos, receivers, component, ports)?;
+        Ok(part_of(component, runner, outlets, inlets))
+    }
 }
