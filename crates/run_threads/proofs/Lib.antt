@@ -9,3 +9,4 @@ pub mod Dealt
 pub mod Assembled
 pub mod Placed
 pub mod InTurn
+pub mod InAll

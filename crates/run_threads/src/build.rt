@@ -52,3 +52,39 @@ fn place<'q, V: Device>(
     deal(workers, component as usize, part)?;
     Ok(())
 }
+
+/// Makes the parts of all components, and deals them to workers without members.
+pub(crate) fn deal_all<'q, V: Device>(
+    alloc: Global,
+    queues: &'q [SlotQueue],
+    wiring: &Wiring,
+    stock: &mut Stock,
+    workers: &mut [Worker<Part<'q, V>>],
+    runners: Vec<Runner<V>>,
+) -> Result<(), NoMemory>
+    requires first { runners.items ≡ first_runners V.behaviour
+        wiring.now.links wiring.now.end (starts_of runners.items) }
+    requires matches { map V.behaviour.ports (starts_of runners.items) ≡ wiring.now.kinds }
+    requires at_start { All (λ device. V.settled device 0) (starts_of runners.items) }
+    requires queues { map as_empty queues.now ≡ queues_of wiring.now.kinds wiring.now.links }
+    requires froms { stock.old.froms.items ≡ froms_of wiring.now.links }
+    requires tos { stock.old.tos.items ≡ tos_of wiring.now.links }
+    requires senders { HaveSides its_sender queues.now
+        stock.old.froms.items stock.old.senders.items 0 }
+    requires receivers { HaveSides its_receiver queues.now
+        stock.old.tos.items stock.old.receivers.items 0 }
+    requires workers { AreDealt workers.old [] }
+    ensures { IfOk result (λ _. IsCrewOf V.behaviour V.settled (starts_of runners.items)
+        wiring.now.links wiring.now.end (map (λ (queue : Named). queue.name) queues.now)
+        workers.new) }
+{
+    let mut left = Items::from_vec(runners);
+    left.reverse();
+    let mut component = 0;
+    'runners: while let Some(runner) = left.pop() {
+        let ports = wiring.kinds.as_slice()[component as usize].len() as u32;
+        place(alloc, queues, stock, workers, component, ports, runner)?;
+        component += 1;
+    }
+    Ok(())
+}
