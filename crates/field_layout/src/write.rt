@@ -14,7 +14,9 @@ pub fn put_u8(bytes: &mut [u8], place: usize, value: u8)
     requires { place + 1 ≤ length bytes.old }
     ensures written { bytes.new ≡ overwritten bytes.old place (value ∷ []) }
     // A header that is laid out so far has one field more.
-    ensures laid_out { (size : ℕ) (table : List Entry) → IsLaidOut size table bytes.old → is_apart_from (fields_of table) (field_at place 1) ≡ true → IsLaidOut size (table ++ (entry place 1 value) ∷ []) bytes.new }
+    ensures laid_out { (size : ℕ) (table : List Entry) → IsLaidOut size table bytes.old
+        → is_apart_from (fields_of table) (field_at place 1) ≡ true
+        → IsLaidOut size (table ++ (entry place 1 value) ∷ []) bytes.new }
 {
     put(bytes, place, &[value]);
 }
@@ -24,7 +26,9 @@ pub fn put_u16(bytes: &mut [u8], place: usize, value: u16)
     requires { place + 2 ≤ length bytes.old }
     ensures written { bytes.new ≡ overwritten bytes.old place (to_le_bytes w16 value) }
     // A header that is laid out so far has one field more.
-    ensures laid_out { (size : ℕ) (table : List Entry) → IsLaidOut size table bytes.old → is_apart_from (fields_of table) (field_at place 2) ≡ true → IsLaidOut size (table ++ (entry place 2 value) ∷ []) bytes.new }
+    ensures laid_out { (size : ℕ) (table : List Entry) → IsLaidOut size table bytes.old
+        → is_apart_from (fields_of table) (field_at place 2) ≡ true
+        → IsLaidOut size (table ++ (entry place 2 value) ∷ []) bytes.new }
 {
     put(bytes, place, &value.to_le_bytes());
 }
@@ -34,7 +38,9 @@ pub fn put_u32(bytes: &mut [u8], place: usize, value: u32)
     requires { place + 4 ≤ length bytes.old }
     ensures written { bytes.new ≡ overwritten bytes.old place (to_le_bytes w32 value) }
     // A header that is laid out so far has one field more.
-    ensures laid_out { (size : ℕ) (table : List Entry) → IsLaidOut size table bytes.old → is_apart_from (fields_of table) (field_at place 4) ≡ true → IsLaidOut size (table ++ (entry place 4 value) ∷ []) bytes.new }
+    ensures laid_out { (size : ℕ) (table : List Entry) → IsLaidOut size table bytes.old
+        → is_apart_from (fields_of table) (field_at place 4) ≡ true
+        → IsLaidOut size (table ++ (entry place 4 value) ∷ []) bytes.new }
 {
     put(bytes, place, &value.to_le_bytes());
 }
@@ -44,7 +50,9 @@ pub fn put_u64(bytes: &mut [u8], place: usize, value: u64)
     requires { place + 8 ≤ length bytes.old }
     ensures written { bytes.new ≡ overwritten bytes.old place (to_le_bytes w64 value) }
     // A header that is laid out so far has one field more.
-    ensures laid_out { (size : ℕ) (table : List Entry) → IsLaidOut size table bytes.old → is_apart_from (fields_of table) (field_at place 8) ≡ true → IsLaidOut size (table ++ (entry place 8 value) ∷ []) bytes.new }
+    ensures laid_out { (size : ℕ) (table : List Entry) → IsLaidOut size table bytes.old
+        → is_apart_from (fields_of table) (field_at place 8) ≡ true
+        → IsLaidOut size (table ++ (entry place 8 value) ∷ []) bytes.new }
 {
     put(bytes, place, &value.to_le_bytes());
 }
