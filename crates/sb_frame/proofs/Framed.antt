@@ -2,7 +2,7 @@
 use Rattle.std.specs.Prelude.{true}
 use Rattle.std.proofs.lemmas.Bool.Decides.{nat_tests}
 use Rattle.std.specs.Int.{w64, to_le_bytes, bytes_low_first}
-use Rattle.std.proofs.Common.{◌≡◌, ℕ, ◌+◌, ◌<◌, ◌≤◌, ◌^◌, List, [], ◌∷◌, ◌++◌, length, drop, ap, sym, refl, subst, arith, ◌∙◌, append_assoc, length-append}
+use Rattle.std.proofs.Common.{◌≡◌, ℕ, ◌+◌, ◌-◌, ◌<◌, ◌≤◌, ◌^◌, List, [], ◌∷◌, ◌++◌, length, drop, ap, sym, refl, subst, arith, ◌∙◌, append_assoc, length-append}
 use Rattle.std.proofs.lemmas.List.{take_at, drop_at}
 use Rattle.field_layout.specs.Layout.{Holds, entry}
 use Rattle.field_layout.proofs.Layouts.{number_in-4}
@@ -27,12 +27,15 @@ headed m old new size a size_is =
     let head = bytes_low_first 0 4 size in
     let small : size ≤ 2112 = omega arith in
     let stated_is : stated (head ++ a.bytes) ≡ size = states size a.bytes small in
+    let whole : length (head ++ a.bytes) ≡ 4 + length a.bytes = length-append head a.bytes in
+    let behind : size ≡ length (head ++ a.bytes) - 4 = omega arith in
     record {
       frame = head ++ a.bytes;
       whole = record {
         in_range = ap is_length stated_is ∙ in_range size (omega arith) small;
         measured = length-append head a.bytes ∙ ap (λ n. 4 + n) (sym size_is ∙ sym stated_is);
       };
+      header = take_at head a.bytes 4 refl ∙ ap (bytes_low_first 0 4) behind;
       spelled = subst (IsSpelled m) (sym (drop_at head a.bytes 4 refl)) a.spelled;
       appended = a.appended ∙ append_assoc old head a.bytes;
     }
