@@ -10,3 +10,6 @@ mod ring;
 pub use dialer::PipeDialer;
 pub use ends::{PipeIn, PipeOut};
 pub use plan::PipePlan;
+
+#[cfg(test)]
+mod tests;
