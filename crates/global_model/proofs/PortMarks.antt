@@ -1,7 +1,7 @@
 -- Masks of ports, and ports at which nothing waits.
-use Rattle.std.specs.Prelude.{ℕ, ◌≡◌, ◌≢◌, ◌+◌, ◌-◌, ◌*◌, ◌/◌, ◌%◌, ◌^◌, ◌≤◌, ◌<◌, zero, suc, Bool, true, false, not, if◌then◌else◌, IsTrue, List, [], length, replicate, map, Vec, Option, Some, None, option_and_then, slice_get, slice_set, ◌⊎◌, refl}
+use Rattle.std.specs.Prelude.{ℕ, ◌≡◌, ◌≢◌, ◌+◌, ◌-◌, ◌/◌, ◌%◌, ◌^◌, ◌≤◌, ◌<◌, zero, suc, Bool, true, false, not, if◌then◌else◌, IsTrue, List, [], length, replicate, map, Vec, Some, option_and_then, slice_get, slice_set, ◌⊎◌, refl}
 use Rattle.std.specs.Int.{bit_at, trailing_zeros}
-use Rattle.std.proofs.Common.{inl, inr, sym, ap, ◌∙◌, subst, arith, w32, shr-shr}
+use Rattle.std.proofs.Common.{inl, inr, sym, ap, ◌∙◌, arith, w32, shr-shr}
 use Rattle.std.proofs.Math.Nat.{div-le_self}
 use Rattle.std.proofs.lemmas.Bool.{cases_eq, false≢true}
 use Rattle.std.proofs.lemmas.List.{length-set, length-map, length-replicate}
@@ -63,6 +63,13 @@ module _ (masks : List ℕ) (inboxes inboxes' : List (List (List Msg))) (c p mas
 
   pub marked_on : AreMarked (slice_set masks c mask') inboxes'
   marked_on = record { as_many = length-set masks c mask' ∙ marks.as_many ∙ sym many; idle = idle_on }
+
+-- the masks still hold where each port's queue is as it was
+pub marks_kept : (masks : List ℕ) (inboxes inboxes' : List (List (List Msg))) → AreMarked masks inboxes → length inboxes' ≡ length inboxes → ((e : End) → port_of inboxes' e ≡ port_of inboxes e) → AreMarked masks inboxes'
+marks_kept masks inboxes inboxes' marks many same = record {
+  as_many = marks.as_many ∙ sym many;
+  idle = λ d m q at small none. ap queue_in (same (end_at d q)) ∙ marks.idle d m q at small none;
+}
 
 pub as_many_set : {X Z : Type 0} (lists : List (List X)) (vectors : List (Vec X Z)) (c : ℕ) (new : Vec X Z) → map (λ (v : Vec X Z). v.items) vectors ≡ lists → length (map (λ (v : Vec X Z). v.items) (slice_set vectors c new)) ≡ length lists
 as_many_set {X} {Z} lists vectors c new view = length-map (slice_set vectors c new) (λ (v : Vec X Z). v.items) ∙ length-set vectors c new ∙ sym (length-map vectors (λ (v : Vec X Z). v.items)) ∙ ap length view

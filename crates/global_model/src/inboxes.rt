@@ -75,10 +75,12 @@ impl Inboxes {
     {
         let place = component as usize;
         let inbox = &mut self.components[place][port as usize];
-        let body = inbox.take_at(t);
+        let Some(body) = inbox.take_at(t) else {
+            return None;
+        };
         let waits = !inbox.is_empty();
         self.filled[place] = marked(self.filled[place], port, waits);
-        body
+        Some(body)
     }
 
     /// The first port of a component from one on, and below their number, at which something may wait; their number

@@ -12,7 +12,33 @@ use moment_tree::Agenda;
 use sb_message::{Body, Msg};
 
 /// Puts what a component sent at a time, by which port, into the inboxes where it arrives, notes when, and counts it.
+/// Where it sent nothing, as at most moments, it makes no call.
+#[inline(always)]
 pub fn post(
+    from: u32,
+    t: Time,
+    sends: &mut Items<(u32, Body)>,
+    routes: &Routes,
+    inboxes: &mut Inboxes,
+    agenda: &mut Agenda,
+    tallies: &mut Tallies,
+) -> Result<(), NoMemory>
+    requires in_run { t < 10 ^ 15 }
+    requires routed { AreRouted routes.now inboxes.old from sends.old }
+    ensures arrives { OnOk result (Arrive routes.now from t sends.old inboxes.old inboxes.new) }
+    ensures noted { OnOk result
+        (agenda.new ≡ note_all (events_along routes.now from t sends.old) agenda.old) }
+    ensures counted { OnOk result (AreCounted routes.now from t sends.old tallies.old tallies.new) }
+    ensures emptied { OnOk result (sends.new ≡ []) }
+{
+    if sends.is_empty() {
+        return Ok(());
+    }
+    post_each(from, t, sends, routes, inboxes, agenda, tallies)
+}
+
+#[inline(never)]
+fn post_each(
     from: u32,
     t: Time,
     sends: &mut Items<(u32, Body)>,

@@ -1,4 +1,4 @@
-ghost use Rattle.std.specs.Prelude.{◌≡◌, ◌≤◌, ◌<◌, ◌^◌};
+ghost use Rattle.std.specs.Prelude.{◌≡◌, ◌≤◌, ◌<◌, ◌^◌, ◌/◌};
 ghost use Rattle.global_model.specs.Tally.{IsInterval, first_tally, syncs_before, after_send, count_before};
 
 use cs_base::time::Time;
@@ -72,8 +72,22 @@ fn due_before(interval: Time, due: Time, time: Time) -> u64
     let first = due.picoseconds();
     let before = time.picoseconds();
     if first < before {
-        (before - 1 - first) / interval.picoseconds() + 1
+        quotient(before - 1 - first, interval.picoseconds()) + 1
     } else {
         0
+    }
+}
+
+/// A quotient. One of 0 or 1, as of two sends near each other, takes no division.
+fn quotient(n: u64, by: u64) -> u64
+    requires { 1 ≤ by }
+    ensures { result ≡ n / by }
+{
+    if n < by {
+        0
+    } else if n - by < by {
+        1
+    } else {
+        n / by
     }
 }

@@ -134,7 +134,7 @@ pub fn turn<V: Device>(
     Ok(due)
 }
 
-/// Logs the lines of a time. Where there are none, as at most moments, it makes no call.
+/// Logs the lines of a time. Where there is none or one, as at most moments, no list is turned round.
 #[inline(always)]
 pub fn log_lines(
     t: Time,
@@ -144,8 +144,12 @@ pub fn log_lines(
     ensures logged { OnOk result (log.new ≡ log.old ++ logged_at t lines.old) }
     ensures emptied { OnOk result (lines.new ≡ []) }
 {
-    if lines.is_empty() {
+    let Some(text) = lines.pop() else {
         return Ok(());
+    };
+    if lines.is_empty() {
+        return log.push(Line { at: t, text });
     }
+    lines.push(text)?;
     log_all(t, lines, log)
 }

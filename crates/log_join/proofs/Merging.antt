@@ -1,8 +1,8 @@
 -- Logs in the order of time, joined line by line: each time the first line of all that is left.
-use Rattle.std.proofs.Common.{◌≡◌, ◌≢◌, ℕ, zero, suc, ◌+◌, ◌-◌, ◌≤◌, ◌<◌, ◌^◌, ◌⊎◌, Bool, true, false, cond, List, [], ◌∷◌, ◌++◌, length, map, take, get_or, refl, ap, subst, sym, ◌∙◌, inl, inr, ⊎_elim, arith, append_assoc, append-nil, Option, Some, None}
-use Rattle.std.specs.Prelude.{◌==◌, nat_lt, slice_get, slice_set, replicate, IfSome, option_map}
-use Rattle.std.specs.List.{All, filter}
-use Rattle.std.proofs.lemmas.Bool.{cases_lt, cases_eq}
+use Rattle.std.proofs.Common.{◌≡◌, ◌≢◌, ℕ, zero, suc, ◌+◌, ◌-◌, ◌≤◌, ◌<◌, ◌^◌, true, false, cond, List, [], ◌∷◌, ◌++◌, length, map, take, get_or, refl, ap, subst, sym, ◌∙◌, ⊎_elim, arith, append_assoc, append-nil, Option, Some, None}
+use Rattle.std.specs.Prelude.{◌==◌, slice_get, slice_set, replicate, IfSome, option_map, decimal}
+use Rattle.std.specs.List.{All}
+use Rattle.std.proofs.lemmas.Bool.{cases_eq}
 use Rattle.std.proofs.lemmas.Bool.Decides.{nat_tests}
 use Rattle.std.proofs.lemmas.List.{length-set, length-map, map-set, take_more}
 use Rattle.std.proofs.lemmas.List.Elements.{All-nil, All-cons, All-append, All-head, All-tail, All-set}
@@ -12,7 +12,8 @@ use Rattle.device_api.specs.Joined.{text_of, texts_of, lines_at, joined_at, join
 use Rattle.moment_tree.specs.Places.{clock}
 use Rattle.moment_tree.specs.Dues.{IsFirst}
 use Rattle.log_join.specs.Before.{IsBefore, AreBefore}
-use Rattle.log_join.specs.Heads.{head_time, IsFrom}
+use Rattle.log_join.specs.Entries.{spaced}
+use Rattle.log_join.specs.Heads.{head_time, second_time, IsFrom}
 
 pub from_lower : (t u : ℕ) (log : List Line) → t ≤ u → IsFrom u log → IsFrom t log
 from_lower t u [] le from = tt
@@ -150,6 +151,29 @@ pub record IsMerged (names : List (List ℕ)) (logs rests : List (List Line)) (t
   pub before : (end : ℕ) → AreBefore end logs → AreBefore end rests
   pub texts : (end : ℕ) → AreBefore end logs → text ++ joined_until end names rests ≡ joined_until end names logs
 
+-- a piece that stands ready is a component's name between spaces
+piece_is : (names : List (List ℕ)) (c : ℕ) (piece : List ℕ) → slice_get (map spaced names) c ≡ Some piece → (name : List ℕ) × (slice_get names c ≡ Some name) × (piece ≡ spaced name)
+piece_is [] c piece is = absurd cc
+piece_is (name ∷ names) zero piece is = let same : piece ≡ spaced name = cc in (name, refl, same)
+piece_is (name ∷ names) (suc c) piece is = piece_is names c piece is
+
+-- the pieces of a line, one after another
+five : (old digits name space line feed : List ℕ) → old ++ digits ++ (name ++ space) ++ line ++ feed ≡ old ++ (digits ++ name ++ (space ++ line) ++ feed)
+five old digits name space line feed =
+    ap (λ xs. xs ++ line ++ feed) (sym (append_assoc (old ++ digits) name space))
+    ∙ ap (λ xs. xs ++ feed) (append_assoc (old ++ digits ++ name) space line)
+    ∙ append_assoc (old ++ digits ++ name) (space ++ line) feed
+    ∙ ap (λ xs. xs ++ (space ++ line ++ feed)) (append_assoc old digits name)
+    ∙ append_assoc old (digits ++ name) (space ++ line ++ feed)
+    ∙ ap (λ xs. old ++ xs) (sym (append_assoc (digits ++ name) (space ++ line) feed))
+
+-- a line's text is made of what stands ready
+pieces_text : (old digits piece name : List ℕ) (line : Line) → digits ≡ decimal line.at → piece ≡ spaced name → old ++ digits ++ piece ++ line.text ++ 10 ∷ [] ≡ old ++ text_of name line
+pieces_text old digits piece name line stamped is =
+    ap (λ xs. old ++ xs ++ piece ++ line.text ++ 10 ∷ []) stamped
+    ∙ ap (λ xs. old ++ decimal line.at ++ xs ++ line.text ++ 10 ∷ []) is
+    ∙ five old (decimal line.at) (32 ∷ name) (32 ∷ []) line.text (10 ∷ [])
+
 pub nothing_written : (names : List (List ℕ)) (logs rests : List (List Line)) (text : List ℕ) → All (IsFrom 0) logs → length names ≡ length logs → rests ≡ logs → text ≡ [] → IsMerged names logs rests text
 nothing_written names logs rests text in_order same is none = subst (λ xs. IsMerged names logs xs text) (sym is) (subst (IsMerged names logs logs) (sym none) (record { in_order = in_order; same = sym same; before = λ end early. early; texts = λ end early. refl }))
 
@@ -168,6 +192,11 @@ module _ {names : List (List ℕ)} {logs rests : List (List Line)} {text : List 
             ∙ ap (λ xs. text ++ xs) (sym (joined_more c name line more names rests named is none end (All-head (λ (x : Line). x.at < end) line more (All_at (IsBefore end) rests c (line ∷ more) (merged.before end early) is))))
             ∙ merged.texts end early;
       }
+
+  pub pieces_written : (c : ℕ) (piece digits : List ℕ) (line : Line) (more : List Line) (text' : List ℕ) → slice_get (map spaced names) c ≡ Some piece → digits ≡ decimal line.at → slice_get rests c ≡ Some (line ∷ more) → IsFirst line.at c (map head_time rests) → text' ≡ text ++ digits ++ piece ++ line.text ++ 10 ∷ [] → IsMerged names logs (slice_set rests c more) text'
+  pieces_written c piece digits line more text' ready stamped is first written =
+      let named = piece_is names c piece ready in
+      one_written c named.0 line more text' named.1 is first (written ∙ pieces_text text digits piece named.0 line stamped named.2)
 
   pub all_written : All (λ (due : Option ℕ). due ≡ None) (map head_time rests) → (end : ℕ) → AreBefore end logs → text ≡ joined_until end names logs
   all_written none end early = sym (append-nil text) ∙ ap (λ xs. text ++ xs) (sym (joined_until_none end end 0 names rests (none_precedes end rests none) (omega arith))) ∙ merged.texts end early
@@ -199,6 +228,16 @@ left_less (suc c) line more (log ∷ logs) is = let less : lines_left (slice_set
 
 pub heads_set : (rests : List (List Line)) (c : ℕ) (more : List Line) (agenda agenda' : List (Option ℕ)) → agenda ≡ map head_time rests → agenda' ≡ slice_set agenda c (head_time more) → agenda' ≡ map head_time (slice_set rests c more)
 heads_set rests c more agenda agenda' is new = new ∙ ap (λ xs. slice_set xs c (head_time more)) is ∙ sym (map-set head_time rests c more)
+
+-- the time that stands ready for a component is that of its second line
+pub second_is : (rests : List (List Line)) (seconds : List (Option ℕ)) (c : ℕ) (line : Line) (more : List Line) (due : Option ℕ) → seconds ≡ map second_time rests → slice_get rests c ≡ Some (line ∷ more) → slice_get seconds c ≡ Some due → due ≡ head_time more
+second_is rests seconds c line more due are is read =
+    let there : slice_get (map second_time rests) c ≡ Some (head_time more) = slice_get-map second_time rests c ∙ ap (option_map second_time) is in
+    let both : Some due ≡ Some (head_time more) = sym read ∙ ap (λ xs. slice_get xs c) are ∙ there in
+    cc
+
+pub seconds_set : (rests : List (List Line)) (c : ℕ) (more : List Line) (seconds seconds' : List (Option ℕ)) → seconds ≡ map second_time rests → seconds' ≡ slice_set seconds c (second_time more) → seconds' ≡ map second_time (slice_set rests c more)
+seconds_set rests c more seconds seconds' is new = new ∙ ap (λ xs. slice_set xs c (second_time more)) is ∙ sym (map-set second_time rests c more)
 
 -- THE START
 

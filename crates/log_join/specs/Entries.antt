@@ -1,5 +1,5 @@
 -- Lines with the names of the components that logged them.
-use Rattle.std.specs.Prelude.{ℕ, ◌≡◌, List, map}
+use Rattle.std.specs.Prelude.{ℕ, ◌≡◌, List, [], ◌∷◌, ◌++◌, map}
 use Rattle.std.specs.List.{flat_map, zip}
 use Rattle.device_api.specs.declared.logs.Line.{Line}
 use Rattle.device_api.specs.Joined.{text_of}
@@ -23,3 +23,7 @@ entry_text entry = text_of entry.name.now entry.line.now
 -- these entries are the lines of all components
 abbrev pub AreAll : List (List ℕ) → List (List Line) → List Entry → Type 0
 AreAll names logs entries = map named_line entries ≡ all_named_lines names logs
+
+-- a name with a space before and behind it
+abbrev pub spaced : List ℕ → List ℕ
+spaced name = 32 ∷ name ++ 32 ∷ []

@@ -7,6 +7,11 @@ abbrev pub head_time : List Line → Option ℕ
 head_time [] = None
 head_time (line ∷ more) = Some line.at
 
+-- the time of a log's second line, if there is one
+abbrev pub second_time : List Line → Option ℕ
+second_time [] = None
+second_time (line ∷ more) = head_time more
+
 -- no line is before t or before the one in front of it, and each is at a time which an agenda can hold
 abbrev pub IsFrom : ℕ → List Line → Type 0
 IsFrom t [] = Unit {0}

@@ -1,9 +1,11 @@
-ghost use Rattle.std.specs.Prelude.{◌≡◌, ◌≤◌, length, map, All, IfOk, IfSome};
+ghost use Rattle.std.specs.Prelude.{◌≡◌, ◌≤◌, length, map, All, IfOk, IfSome, OnOk, decimal};
 ghost use Rattle.log_join.specs.Before.{IsJoined};
-ghost use Rattle.log_join.specs.Heads.{head_time, IsFrom};
+ghost use Rattle.log_join.specs.Entries.{spaced};
+ghost use Rattle.log_join.specs.Heads.{head_time, second_time, IsFrom};
 
 use crate::entry::Entry;
-use crate::text::{room_of, write};
+use crate::text::{room_of, write_pieces};
+use cs_base::decimal;
 use cs_base::items::{Items, Octets};
 use cs_base::name::Name;
 use cs_base::no_memory::NoMemory;
@@ -65,18 +67,66 @@ pub(crate) fn merged(
 {
     let mut rests = rests_of(alloc, logs)?;
     let mut agenda = first_times(alloc, logs)?;
+    let mut seconds = second_times(alloc, logs)?;
+    let spaced = spaced_names(alloc, names)?;
+    let mut stamped = 0u64;
+    let mut digits = digits_of(alloc, stamped)?;
     let mut text = Octets::from_vec(Vec::with_capacity(alloc, room)?);
     'moments: while let Some(moment) = agenda.first() {
         let place = moment.component as usize;
         let Some((line, rest)) = rests[place].split_first() else {
             return Ok(text);
         };
-        let name = &names[place];
-        write(Entry { name, line }, &mut text)?;
-        agenda.set(moment.component, first_time(rest));
+        let at = line.at.picoseconds();
+        stamp(stamped, at, &mut digits)?;
+        stamped = at;
+        write_pieces(digits.as_slice(), spaced[place].as_slice(), line, &mut text)?;
+        agenda.set(moment.component, seconds[place]);
+        seconds[place] = second_time(rest);
         rests[place] = rest;
     }
     Ok(text)
+}
+
+/// The names with a space before and behind each, as they stand in a line.
+fn spaced_names(alloc: Global, names: &[Name]) -> Result<Vec<Octets>, NoMemory>
+    ensures { IfOk result (λ pieces. pieces.items ≡ map spaced names.now) }
+{
+    let mut pieces = Vec::new(alloc);
+    for name in names {
+        pieces.push(spaced_name(alloc, name)?)?;
+    }
+    Ok(pieces)
+}
+
+fn spaced_name(alloc: Global, name: &Name) -> Result<Octets, NoMemory>
+    ensures { IfOk result (λ piece. piece ≡ spaced name.now) }
+{
+    let mut piece = Octets::new(alloc);
+    piece.push(b' ')?;
+    piece.append(name.as_slice())?;
+    piece.push(b' ')?;
+    Ok(piece)
+}
+
+fn digits_of(alloc: Global, at: u64) -> Result<Octets, NoMemory>
+    ensures { IfOk result (λ digits. digits ≡ decimal at) }
+{
+    let mut digits = Octets::new(alloc);
+    decimal(at, &mut digits)?;
+    Ok(digits)
+}
+
+/// Makes the digits of one time those of another. Most lines have the time of the line before.
+fn stamp(stamped: u64, at: u64, digits: &mut Octets) -> Result<(), NoMemory>
+    requires { digits.old ≡ decimal stamped }
+    ensures { OnOk result (digits.new ≡ decimal at) }
+{
+    if at == stamped {
+        return Ok(());
+    }
+    digits.clear();
+    decimal(at, digits)
 }
 
 fn rests_of(alloc: Global, logs: &[Items<Line>]) -> Result<Vec<&[Line]>, NoMemory>
@@ -100,6 +150,26 @@ fn first_times(alloc: Global, logs: &[Items<Line>]) -> Result<Agenda, NoMemory>
         agenda.set(index as u32, first_time(log.as_slice()));
     }
     Ok(agenda)
+}
+
+/// The times of the second lines. They are read long before they are needed, so that no line is waited for.
+fn second_times(alloc: Global, logs: &[Items<Line>]) -> Result<Vec<Option<Time>>, NoMemory>
+    ensures { IfOk result (λ seconds. seconds.items ≡ map second_time logs.now) }
+{
+    let mut seconds = Vec::new(alloc);
+    for log in logs {
+        seconds.push(second_time(log.as_slice()))?;
+    }
+    Ok(seconds)
+}
+
+fn second_time(log: &[Line]) -> Option<Time>
+    ensures { result ≡ second_time log.now }
+{
+    match log.get(1) {
+        Some(line) => Some(line.at),
+        None => None,
+    }
 }
 
 fn first_time(log: &[Line]) -> Option<Time>

@@ -1,4 +1,4 @@
-ghost use Rattle.std.specs.Prelude.{◌≡◌, ◌++◌, ◌≤◌, length, min, decimal, IfOk, OnOk};
+ghost use Rattle.std.specs.Prelude.{◌≡◌, ◌++◌, ◌≤◌, ◌∷◌, [], length, min, decimal, IfOk, OnOk};
 ghost use Rattle.std.specs.List.{flat_map};
 ghost use Rattle.log_join.specs.Entries.{entry_text};
 
@@ -7,6 +7,7 @@ use cs_base::decimal;
 use cs_base::items::Octets;
 use cs_base::no_memory::NoMemory;
 use cs_base::time::Time;
+use device_api::Line;
 use std::alloc::Global;
 
 const TEN_DIGITS: u64 = 10_000_000_000;
@@ -60,5 +61,21 @@ pub(crate) fn write(entry: Entry<'_>, text: &mut Octets) -> Result<(), NoMemory>
     text.append(entry.name.as_slice())?;
     text.push(b' ')?;
     text.append(entry.line.text.as_slice())?;
+    text.push(b'\n')
+}
+
+/// Writes a line whose time's digits, and whose component's name between spaces, stand ready.
+pub(crate) fn write_pieces(
+    digits: &[u8],
+    name: &[u8],
+    line: &Line,
+    text: &mut Octets,
+) -> Result<(), NoMemory>
+    ensures { OnOk result
+        (text.new ≡ text.old ++ digits.now ++ name.now ++ line.now.text ++ 10 ∷ []) }
+{
+    text.append(digits)?;
+    text.append(name)?;
+    text.append(line.text.as_slice())?;
     text.push(b'\n')
 }

@@ -63,5 +63,5 @@ fn beside(node: usize) -> usize
     requires few { node < 128 }
     ensures { result + node ≡ 4 * (node / 2) + 1 }
 {
-    node / 2 * 4 + 1 - node
+    node ^ 1
 }

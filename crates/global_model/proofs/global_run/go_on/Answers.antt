@@ -1,4 +1,4 @@
-use Rattle.std.proofs.Common.{arith, ◌≤◌, ◌^◌}
+use Rattle.std.proofs.Common.{arith, ◌≤◌}
 use Rattle.global_model.specs.Step.{late_of}
 use Rattle.global_model.proofs.RunLaws.{late_short}
 use Rattle.global_model.proofs.global_run.go_on.Goals as goal

@@ -1,4 +1,4 @@
-use Rattle.std.proofs.Common.{arith, ◌<◌, w32}
+use Rattle.std.proofs.Common.{arith, w32}
 use Rattle.std.proofs.lemmas.Nat.Bits.{bit_at_set_same, bit_at_set_other, bit_at_clear_other}
 use Rattle.global_model.proofs.marks.marked.Goals as goal
 

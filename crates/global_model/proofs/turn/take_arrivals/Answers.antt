@@ -1,4 +1,4 @@
-use Rattle.std.proofs.Common.{subst, arith, length, ◌<◌, ◌≤◌, ◌+◌}
+use Rattle.std.proofs.Common.{subst, ◌<◌, ◌≤◌, ◌+◌}
 use Rattle.global_model.proofs.TurnLaws.{takes_arrivals_start, next_there, next_waits, takes_arrivals_more, takes_arrivals_until}
 use Rattle.global_model.proofs.turn.take_arrivals.Goals as goal
 

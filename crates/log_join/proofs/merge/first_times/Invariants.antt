@@ -1,4 +1,4 @@
-use Rattle.std.proofs.Common.{◌≡◌, ◌++◌, ◌+◌, ◌-◌, map, take, length, Option, None}
+use Rattle.std.proofs.Common.{◌≡◌, ◌++◌, ◌-◌, map, take, length, None}
 use Rattle.std.specs.Prelude.{replicate}
 use Rattle.log_join.specs.Heads.{head_time}
 use Rattle.log_join.proofs.merge.first_times.Given as goal

@@ -1,7 +1,7 @@
 use Rattle.std.proofs.Common.{length}
 use Rattle.global_model.proofs.PostLaws.{Posts}
 use Rattle.global_model.proofs.Counting.{Counting}
-use Rattle.global_model.proofs.post.post.Given as goal
+use Rattle.global_model.proofs.post.post_each.Given as goal
 
 abbrev pub invariant-sends : goal.invariant-sends
 invariant-sends l = record {
