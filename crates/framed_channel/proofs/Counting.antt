@@ -27,7 +27,7 @@ payload_long (body.Mem m) ty fields payload s = ap length s.access.whole
 payload_long (body.Eth frame) ty fields payload s = ap length s.whole
 
 -- how much longer a frame makes the pipe
-frame_long : (m : Msg) (old new : List ℕ) → AppendsFrame m old new → length new ≡ length old + frame_size m
+pub frame_long : (m : Msg) (old new : List ℕ) → AppendsFrame m old new → length new ≡ length old + frame_size m
 frame_long m old new a =
     let bytes = drop 4 a.frame in
     let measured : length a.frame ≡ 4 + stated a.frame = a.whole.measured in

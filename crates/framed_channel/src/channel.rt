@@ -1,4 +1,4 @@
-ghost use Rattle.std.specs.Prelude.{◌≡◌, ◌≤◌, IfOk, OnErr};
+ghost use Rattle.std.specs.Prelude.{◌≡◌, ◌≤◌, length, IfOk, OnErr};
 ghost use Rattle.framed_channel.specs.Channel.{Framed, IsUnused};
 ghost use Rattle.framed_channel.specs.Steps.{MayTake, MayMove, MayPut, Takes, Moves, Puts, Makes, Sends, Refuses, Gives, Empties};
 ghost use Rattle.framed_channel.specs.Standing.{IsCarrying, CarriesSent, CarriesReceived};
@@ -66,6 +66,13 @@ impl FramedChannel {
         ensures err { OnErr result (self.new ≡ self.old) }
     {
         self.pipe.take_from(&mut self.near)
+    }
+
+    /// How many bytes are in the pipe.
+    pub fn in_pipe(&self) -> usize
+        ensures { result ≡ length self.now.pipe }
+    {
+        self.pipe.len()
     }
 
     /// So many bytes at the front of the pipe are read. False exactly where they are none, or more than there are. Where
