@@ -1,5 +1,5 @@
--- The two ends of a channel of a mesh, and the queue between them.
-use Rattle.std.proofs.Common.{◌≡◌, ℕ, zero, suc, ◌<◌, false, List, [], ◌∷◌, ◌++◌, length, map, Option, Some, None, option_map, slice_get, refl, sym, ap, ap₂, ◌∙◌, subst, arith, inl, inr, append_assoc}
+-- The two ends of a channel of a mesh, and what carries it between them.
+use Rattle.std.proofs.Common.{◌≡◌, ℕ, zero, suc, ◌<◌, false, List, [], ◌∷◌, ◌++◌, length, map, Option, Some, None, option_map, slice_get, refl, sym, ap, ap₂, ◌∙◌, subst, arith, append_assoc}
 use Rattle.std.proofs.lemmas.Option.{none-some, same_Some, slice_get-map, slice_get_within}
 use Rattle.cs_base.specs.declared.link.Link.{Link}
 use Rattle.cs_base.specs.declared.port_kind.PortKind.{PortKind}
@@ -16,22 +16,26 @@ use Rattle.device_api.specs.Transcript.{Script, introduction}
 use Rattle.device_api.specs.World.{Sent, Network}
 use Rattle.global_model.specs.Step.{network}
 use Rattle.global_model.proofs.Ways.{IsWay, way_out}
-use Rattle.port_queue.specs.Plain.{Plain, IsSent, StandsFor, StandsForSent, StandsForReceived}
-use Rattle.port_queue.specs.Streams.{front-from, stream_so_far}
+use Rattle.port_queue.specs.Streams.{stream_so_far}
 use Rattle.run_laws.proofs.Channels.{IsOwned, owned, channel_joined, out_is}
 use Rattle.run_laws.proofs.Lists.{there_below}
 use Rattle.sync_rule.specs.declared.port_plan.PortPlan.{PortPlan}
 use Rattle.sync_rule.specs.declared.runner.Runner.{Runner}
 use Rattle.sync_rule.specs.Ports.{In, Out, introduction_to}
 use Rattle.sync_rule.specs.Steps.{introduced_at, IsIntroduction, MaySendNext}
-use Rattle.sync_rule.specs.ManyPorts.{outbox_at}
+use Rattle.sync_rule.specs.ManyPorts.{outbox_at, outbox_in}
 use Rattle.sync_rule.specs.Next.{IsReady}
 use Rattle.sync_laws.specs.Stands.{Stands, HasMade, HasReceived, LeadsOut, run_upto, has_begun}
 use Rattle.sync_laws.specs.Whole.{IsPlannedBy, of_component}
 use Rattle.sync_laws.proofs.Ahead.{is_ready}
+use Rattle.mesh_channel.specs.declared.carrier.Carrier.{Carrier}
+use Rattle.mesh_channel.specs.Carrier.{kind_sent, Pops}
+use Rattle.mesh_channel.specs.Standing.{StandsSent, IsCarrying}
+use Rattle.mesh_channel.specs.Laws.{IsNext}
+use Rattle.mesh_channel.proofs.Kept.{ends, in_order}
 use Rattle.mesh_core.specs.declared.way.Way.{Way}
 use Rattle.mesh_core.specs.State.{State, way_of}
-use Rattle.mesh_core.specs.MeshOf.{HasQueue, IsMeshOf, IsMesh}
+use Rattle.mesh_core.specs.MeshOf.{HasCarrier, IsMeshOf, IsMesh}
 
 partner_back : (kind : PortKind) → partner (partner kind) ≡ kind
 partner_back Eth = refl
@@ -47,11 +51,6 @@ some_mapped f (Some a) y e = (a, refl, same_Some (f a) y e)
 -- the element of a list whose image is at a place
 pub mapped_at : {A B : Type 0} (f : A → B) (xs : List A) (ys : List B) (i : ℕ) (y : B) → map f xs ≡ ys → slice_get ys i ≡ Some y → (a : A) × (slice_get xs i ≡ Some a) × (f a ≡ y)
 mapped_at f xs ys i y e is = some_mapped f (slice_get xs i) y (sym (slice_get-map f xs i) ∙ ap (λ l. slice_get l i) e ∙ is)
-
--- the first messages of a stream are nothing or a stream
-sent_of : (kind : PortKind) (xs ys : List Msg) → IsStream kind (xs ++ ys) → IsSent kind xs
-sent_of kind [] ys stream = inl refl
-sent_of kind (x ∷ xs) ys stream = inr (front-from kind x xs ys stream)
 
 -- each transcript begins with the introduction
 pub record BeginsWith (m : Msg) (messages : List Msg) : Type 0 where
@@ -157,46 +156,44 @@ module _ {V : Type 0} (b : Behaviour V) (settled : V → ℕ → Type 0) (starts
     pub receiver : HasPort ch.to
     receiver = has_port ch.to (owned net ch.to (channel_joined net of.wired k ch is).at_receiver)
 
-    pub between : HasQueue (map b.ports starts) ch k (of.held ch.from) mesh.queues
-    between = of.queues k ch is
+    pub between : HasCarrier (map b.ports starts) ch k (of.sent ch.from) (of.received ch.to) mesh.carriers
+    between = of.carriers k ch is
 
     way_there : IsWay (map b.ports starts) ch.from ch
     way_there = way_out (map b.ports starts) links ch.from ch of.wired.links_join (out_is net of.wired k ch is)
 
-    pub queue_kind : between.queue.kind ≡ partner sender.outgoing.plan.kind
-    queue_kind = same_Some _ _ (sym between.kind ∙ way_there.to_partner ∙ ap (option_map partner) sender.kind_is) ∙ ap partner (sym sender.out_kind)
+    pub sent_kind : kind_sent between.carrier ≡ partner sender.outgoing.plan.kind
+    sent_kind = same_Some _ _ (sym between.kind ∙ way_there.to_partner ∙ ap (option_map partner) sender.kind_is) ∙ ap partner (sym sender.out_kind)
 
-    pub receiver_kind : between.queue.kind ≡ receiver.incoming.plan.kind
+    pub receiver_kind : kind_sent between.carrier ≡ receiver.incoming.plan.kind
     receiver_kind = same_Some _ _ (sym between.kind ∙ receiver.kind_is) ∙ sym receiver.in_kind
 
     made : HasMade (of.positions ch.from.component) (run_upto b sender.start (of.positions ch.from.component) (of_component ch.from.component of.received) sender.runner.end) sender.runner.end ch.from.port (of.sent ch.from) sender.outgoing
     made = sender.stands.made ch.from.port sender.outgoing sender.out_at
 
-    stands_for : StandsFor between.queue (of.sent ch.from) (of.received ch.to)
-    stands_for = record {
-      held_between = ap (λ l. of.received ch.to ++ l) between.holds ∙ sym (of.whole.joined k ch is).between;
-      is_sent = subst (λ kind. IsSent kind (of.sent ch.from)) (sym queue_kind) (sent_of (partner sender.outgoing.plan.kind) (of.sent ch.from) sender.outgoing.outbox made.stream);
-    }
+    -- what carries the channel stands for what was sent
+    pub for_sent : StandsSent between.carrier (of.sent ch.from)
+    for_sent = (ends between.carrier (of.sent ch.from) (of.received ch.to) between.carries).sends
 
-    -- the queue stands for what was sent, and for what was received
-    pub for_sent : StandsForSent between.queue (of.sent ch.from)
-    for_sent = record { received = of.received ch.to; both = stands_for }
-
-    pub for_received : StandsForReceived between.queue (of.received ch.to)
-    for_received = record { sent = of.sent ch.from; both = stands_for }
+    -- and the message that waits at its sender is next
+    pub next_streams : (m : Msg) (more : List Msg) → outbox_in sender.runner.outgoing ch.from.port ≡ m ∷ more → IsStream (kind_sent between.carrier) (of.sent ch.from ++ m ∷ [])
+    next_streams m more waits = subst (λ kind. IsStream kind (of.sent ch.from ++ m ∷ [])) (sym sent_kind) (stream_so_far (partner sender.outgoing.plan.kind) (of.sent ch.from) m more (subst (IsStream (partner sender.outgoing.plan.kind)) (ap (λ l. of.sent ch.from ++ l) (sym (ap outbox_at sender.out_at) ∙ waits) ∙ sym (append_assoc (of.sent ch.from) (m ∷ []) more)) made.stream))
 
     -- the first message of a channel is its introduction
-    pub first_is : introduced_at (slice_get receiver.runner.incoming ch.to.port) ≡ false → (m : Msg) (more : List Msg) → between.queue.held ≡ m ∷ more → IsIntroduction receiver.runner ch.to.port m
-    first_is none m more head = record { is = receiver.incoming; there = receiver.in_at; introduction = first_of (introduction sender.outgoing.plan.kind ch) (of.sent ch.from) sender.outgoing.outbox m more begins sent_is ∙ same }
+    pub first_is : introduced_at (slice_get receiver.runner.incoming ch.to.port) ≡ false → (m : Msg) (after : Carrier) → Pops between.carrier m after → IsIntroduction receiver.runner ch.to.port m
+    first_is none m after pops = record { is = receiver.incoming; there = receiver.in_at; introduction = first_of (introduction sender.outgoing.plan.kind ch) (of.sent ch.from) sender.outgoing.outbox m next.rest begins sent_is ∙ same }
       where
+        next : IsNext m (of.sent ch.from) (of.received ch.to)
+        next = in_order between.carrier after m (of.sent ch.from) (of.received ch.to) between.carries pops
+
         heard : HasReceived (of.positions ch.to.component) ch.to.port (of.received ch.to) receiver.incoming
         heard = receiver.stands.heard ch.to.port receiver.incoming receiver.in_at
 
         nothing : of.received ch.to ≡ []
         nothing = none_begun (of.received ch.to) (sym heard.introduced ∙ sym (ap introduced_at receiver.in_at) ∙ none)
 
-        sent_is : of.sent ch.from ≡ m ∷ more
-        sent_is = (of.whole.joined k ch is).between ∙ ap (λ l. l ++ of.held ch.from) nothing ∙ sym between.holds ∙ head
+        sent_is : of.sent ch.from ≡ m ∷ next.rest
+        sent_is = next.parts ∙ ap (λ l. l ++ m ∷ next.rest) nothing
 
         leads : LeadsOut ch ch.from.port sender.outgoing.plan
         leads = (let planned : IsPlannedBy ch sender.outgoing.plan = (of.whole.joined k ch is).sender sender.runner sender.outgoing sender.there sender.out_at in record { from_port = refl; latency = planned.latency; interval = planned.interval })
@@ -205,20 +202,20 @@ module _ {V : Type 0} (b : Behaviour V) (settled : V → ℕ → Type 0) (starts
         begins = subst (BeginsWith (introduction sender.outgoing.plan.kind ch)) (ap (λ (s : Script). s.messages) (made.script ch leads)) (script_begins sender.outgoing.plan.kind ch _ _ _)
 
         same : introduction sender.outgoing.plan.kind ch ≡ introduction_to receiver.incoming.plan
-        same = introductions ch sender.outgoing.plan.kind receiver.incoming.plan (sym (partner_back sender.outgoing.plan.kind) ∙ ap partner (sym queue_kind ∙ receiver_kind)) ((of.whole.joined k ch is).receiver receiver.runner receiver.incoming receiver.there receiver.in_at)
+        same = introductions ch sender.outgoing.plan.kind receiver.incoming.plan (sym (partner_back sender.outgoing.plan.kind) ∙ ap partner (sym sent_kind ∙ receiver_kind)) ((of.whole.joined k ch is).receiver receiver.runner receiver.incoming receiver.there receiver.in_at)
 
 pub ready_in : {V : Type 0} (b : Behaviour V) (settled : V → ℕ → Type 0) → IsLawful b settled → (mesh : State V) → IsMesh b settled mesh → (c : ℕ) (r : Runner V) → slice_get mesh.runners c ≡ Some r → IsReady b settled r
 ready_in b settled lawful mesh (starts, links, end, of) c r is = (let at : IsStanding b settled starts links end mesh of c r = standing b settled starts links end mesh of c r is in is_ready b settled lawful at.start _ _ _ r at.stands)
 
--- the runner at the end of a channel that sends, and the channel's queue
+-- the runner at the end of a channel that sends, and what carries the channel
 pub record HasSender {V : Type 0} (mesh : State V) (k : ℕ) (way : Way) : Type 0 where
   pub runner : Runner V
   pub there : slice_get mesh.runners way.from.component ≡ Some runner
   pub outgoing : Out
   pub out_at : slice_get runner.outgoing way.from.port ≡ Some outgoing
-  pub queue : Plain
-  pub between : slice_get mesh.queues k ≡ Some queue
-  pub may_send : MaySendNext runner way.from.port queue.kind (StandsForSent queue)
+  pub carrier : Carrier
+  pub between : slice_get mesh.carriers k ≡ Some carrier
+  pub may_send : MaySendNext runner way.from.port (kind_sent carrier) (StandsSent carrier)
 
 pub sender_in : {V : Type 0} (b : Behaviour V) (settled : V → ℕ → Type 0) (mesh : State V) → IsMesh b settled mesh → (k : ℕ) (way : Way) → slice_get mesh.ways k ≡ Some way → HasSender mesh k way
 sender_in {V} b settled mesh (starts, links, end, of) k way leads = subst (HasSender mesh k) at.is (sent_from at.ch at.at)
@@ -232,20 +229,20 @@ sender_in {V} b settled mesh (starts, links, end, of) k way leads = subst (HasSe
       there = port.there;
       outgoing = port.outgoing;
       out_at = port.out_at;
-      queue = queue.queue;
-      between = queue.there;
+      carrier = own.carrier;
+      between = own.there;
       may_send = λ m more waits. record {
         sent = of.sent ch.from;
         is_sent = for_sent b settled starts links end mesh of k ch is;
-        streams = subst (λ kind. IsStream kind (of.sent ch.from ++ m ∷ [])) (sym (queue_kind b settled starts links end mesh of k ch is)) (stream_so_far (partner port.outgoing.plan.kind) (of.sent ch.from) m more (subst (IsStream (partner port.outgoing.plan.kind)) (ap (λ l. of.sent ch.from ++ l) (sym (ap outbox_at port.out_at) ∙ waits) ∙ sym (append_assoc (of.sent ch.from) (m ∷ []) more)) (made b settled starts links end mesh of k ch is).stream));
+        streams = next_streams b settled starts links end mesh of k ch is m more waits;
       };
     }
       where
         port : HasPort b settled starts links end mesh of ch.from
         port = sender b settled starts links end mesh of k ch is
 
-        queue : HasQueue (map b.ports starts) ch k (of.held ch.from) mesh.queues
-        queue = between b settled starts links end mesh of k ch is
+        own : HasCarrier (map b.ports starts) ch k (of.sent ch.from) (of.received ch.to) mesh.carriers
+        own = between b settled starts links end mesh of k ch is
 
 -- the runner at the end that receives
 pub record HasReceiver {V : Type 0} (mesh : State V) (k : ℕ) (way : Way) : Type 0 where
@@ -253,9 +250,9 @@ pub record HasReceiver {V : Type 0} (mesh : State V) (k : ℕ) (way : Way) : Typ
   pub there : slice_get mesh.runners way.to.component ≡ Some runner
   pub incoming : In
   pub in_at : slice_get runner.incoming way.to.port ≡ Some incoming
-  pub queue : Plain
-  pub between : slice_get mesh.queues k ≡ Some queue
-  pub first_is : introduced_at (slice_get runner.incoming way.to.port) ≡ false → (m : Msg) (more : List Msg) → queue.held ≡ m ∷ more → IsIntroduction runner way.to.port m
+  pub carrier : Carrier
+  pub between : slice_get mesh.carriers k ≡ Some carrier
+  pub first_is : introduced_at (slice_get runner.incoming way.to.port) ≡ false → (m : Msg) (after : Carrier) → Pops carrier m after → IsIntroduction runner way.to.port m
 
 pub receiver_in : {V : Type 0} (b : Behaviour V) (settled : V → ℕ → Type 0) (mesh : State V) → IsMesh b settled mesh → (k : ℕ) (way : Way) → slice_get mesh.ways k ≡ Some way → HasReceiver mesh k way
 receiver_in {V} b settled mesh (starts, links, end, of) k way leads = subst (HasReceiver mesh k) at.is (received_at at.ch at.at)
@@ -269,13 +266,26 @@ receiver_in {V} b settled mesh (starts, links, end, of) k way leads = subst (Has
       there = port.there;
       incoming = port.incoming;
       in_at = port.in_at;
-      queue = queue.queue;
-      between = queue.there;
+      carrier = own.carrier;
+      between = own.there;
       first_is = first_is b settled starts links end mesh of k ch is;
     }
       where
         port : HasPort b settled starts links end mesh of ch.to
         port = receiver b settled starts links end mesh of k ch is
 
-        queue : HasQueue (map b.ports starts) ch k (of.held ch.from) mesh.queues
-        queue = between b settled starts links end mesh of k ch is
+        own : HasCarrier (map b.ports starts) ch k (of.sent ch.from) (of.received ch.to) mesh.carriers
+        own = between b settled starts links end mesh of k ch is
+
+-- what carries a channel carries some lists
+pub carrying_in : {V : Type 0} (b : Behaviour V) (settled : V → ℕ → Type 0) (mesh : State V) → IsMesh b settled mesh → (k : ℕ) (way : Way) (carrier : Carrier) → slice_get mesh.ways k ≡ Some way → slice_get mesh.carriers k ≡ Some carrier → IsCarrying carrier
+carrying_in {V} b settled mesh (starts, links, end, of) k way carrier leads there =
+    let at : IsChannelAt b settled starts links end mesh of k way = channel_at b settled starts links end mesh of k way leads in
+    let own : HasCarrier (map b.ports starts) at.ch k (of.sent at.ch.from) (of.received at.ch.to) mesh.carriers = of.carriers k at.ch at.at in
+    subst IsCarrying (same_Some own.carrier carrier (sym own.there ∙ there)) (record { sent = of.sent at.ch.from; received = of.received at.ch.to; both = own.carries })
+
+pub carrier_there : {V : Type 0} (b : Behaviour V) (settled : V → ℕ → Type 0) (mesh : State V) → IsMesh b settled mesh → (k : ℕ) (way : Way) → slice_get mesh.ways k ≡ Some way → k < length mesh.carriers
+carrier_there {V} b settled mesh (starts, links, end, of) k way leads =
+    let at : IsChannelAt b settled starts links end mesh of k way = channel_at b settled starts links end mesh of k way leads in
+    let own : HasCarrier (map b.ports starts) at.ch k (of.sent at.ch.from) (of.received at.ch.to) mesh.carriers = of.carriers k at.ch at.at in
+    slice_get_within mesh.carriers k own.carrier own.there

@@ -1,7 +1,8 @@
--- A mesh that has not ended may take a step: the first message of a queue may be received; where all queues are empty, what
--- waits to be sent may be; and where nothing waits, some component may process its next event.
-use Rattle.std.proofs.Common.{◌≡◌, ℕ, zero, suc, ◌≤◌, ◌⊎◌, inl, inr, List, [], ◌∷◌, ◌++◌, length, map, Some, slice_get, refl, sym, ap, ◌∙◌, arith}
+-- A mesh that has not ended may take a step: what is under way on a channel may go on; where nothing is, what waits to be
+-- sent may be; and where nothing waits, some component may process its next event.
+use Rattle.std.proofs.Common.{◌≡◌, ℕ, zero, suc, ◌⊎◌, inl, inr, List, [], ◌∷◌, ◌++◌, length, map, Some, slice_get, refl, sym, ap, subst, ◌∙◌, arith, append-nil}
 use Rattle.std.specs.Prelude.{slice_set}
+use Rattle.std.proofs.lemmas.List.{append_cancel_left}
 use Rattle.std.proofs.lemmas.Option.{none-some, same_Some}
 use Rattle.cs_base.specs.declared.link.Link.{Link}
 use Rattle.cs_base.specs.Plan.{End}
@@ -11,8 +12,12 @@ use Rattle.device_api.specs.Channels.{Channel, channels}
 use Rattle.device_api.specs.World.{Network}
 use Rattle.global_model.specs.Step.{network}
 use Rattle.run_laws.proofs.Channels.{port_there}
-use Rattle.run_steps.specs.declared.step.Step.TheVariants.{Event, Send, Poll}
-use Rattle.port_queue.specs.Plain.{Plain}
+use Rattle.run_steps.specs.declared.step.Step.TheVariants.{Event, Send, Poll, Take, Move, Put}
+use Rattle.mesh_channel.specs.Standing.{Carries, IsIdle}
+use Rattle.mesh_channel.specs.Laws.{CanGoOn, HasRoomFor}
+use Rattle.mesh_channel.specs.Laws.CanGoOn.{by_take, by_move, by_put, by_receipt}
+use Rattle.mesh_channel.proofs.Going.{goes_on, has_room}
+use Rattle.mesh_channel.proofs.Counted.{are_idle}
 use Rattle.sync_rule.specs.declared.next.Next.{Next}
 use Rattle.sync_rule.specs.declared.next.Next.TheVariants.{Sync, Take, Tick}
 use Rattle.sync_rule.specs.declared.runner.Runner.{Runner}
@@ -29,7 +34,7 @@ use Rattle.sync_laws.proofs.Stuck.{all_ended_or_goes}
 use Rattle.mesh_core.specs.Laws.{CanStep}
 use Rattle.mesh_core.specs.State.{State, way_of}
 use Rattle.mesh_core.specs.Steps.{IsLine, with_line, sent_by, received_by}
-use Rattle.mesh_core.specs.MeshOf.{HasQueue, IsMeshOf}
+use Rattle.mesh_core.specs.MeshOf.{HasCarrier, IsMeshOf}
 use Rattle.mesh_core.specs.ToCome.{IsOver}
 use Rattle.mesh_core.proofs.Ends.{HasPort, IsStanding, IsChannelAt, channel_at, mapped_at, sender, receiver, standing}
 
@@ -74,6 +79,14 @@ after_event b r (Sync port u) enabled = (after_sync r port u, refl)
 after_event b r (Take port t) enabled = (let waits : IsTimed head_of r.incoming port t = enabled.is_next.pending in let first : HasFirst waits.is.inbox t = first_of waits.is.inbox t waits.at_time in (after_take b r port first.m, record { m = first.m; head = record { is = waits.is; there = waits.there; more = first.more; head = first.is }; at_time = first.at_time; is = refl }))
 after_event b r (Tick t) enabled = (after_tick b r t, refl)
 
+-- something is held between two ends
+some_held : (received held : List Msg) (m : Msg) (more : List Msg) → received ++ held ≡ received → held ≡ m ∷ more → ⊥
+some_held received held m more none some =
+    let empty : held ≡ [] = append_cancel_left received held [] (none ∙ sym (append-nil received)) in
+    let long : length held ≡ length (m ∷ more) = ap length some in
+    let short : length held ≡ 0 = ap length empty in
+    omega arith
+
 module _ {V : Type 0} (b : Behaviour V) (settled : V → ℕ → Type 0) (starts : List V) (links : List Link) (end : ℕ) (mesh : State V) (of : IsMeshOf b settled starts links end mesh) where
   abbrev net : Network V
   net = network b starts links
@@ -82,8 +95,8 @@ module _ {V : Type 0} (b : Behaviour V) (settled : V → ℕ → Type 0) (starts
   outbox_on ch = outbox_of (slice_get mesh.runners ch.from.component) ch.from.port
 
   module _ (k : ℕ) (ch : Channel) (is : slice_get (channels links) k ≡ Some ch) where
-    own : HasQueue (map b.ports starts) ch k (of.held ch.from) mesh.queues
-    own = of.queues k ch is
+    own : HasCarrier (map b.ports starts) ch k (of.sent ch.from) (of.received ch.to) mesh.carriers
+    own = of.carriers k ch is
 
     from : HasPort b settled starts links end mesh of ch.from
     from = sender b settled starts links end mesh of k ch is
@@ -91,39 +104,62 @@ module _ {V : Type 0} (b : Behaviour V) (settled : V → ℕ → Type 0) (starts
     to : HasPort b settled starts links end mesh of ch.to
     to = receiver b settled starts links end mesh of k ch is
 
-    line : IsLine mesh k (way_of ch) own.queue
+    line : IsLine mesh k (way_of ch) own.carrier
     line = record { leads = ap (λ ways. slice_get ways k) of.ways ∙ get_mapped way_of (channels links) k ch is; between = own.there }
 
-    polls : (m : Msg) (more : List Msg) → of.held ch.from ≡ m ∷ more → CanStep b mesh
-    polls m more first = record {
+    on : CanGoOn own.carrier → CanStep b mesh
+    on (by_take may) = record { step = Take k; enabled = record { way = way_of ch; carrier = own.carrier; line = line; enabled = may } }
+    on (by_move may) = record { step = Move k 1; enabled = record { way = way_of ch; carrier = own.carrier; line = line; enabled = may } }
+    on (by_put may) = record { step = Put k; enabled = record { way = way_of ch; carrier = own.carrier; line = line; enabled = may } }
+    on (by_receipt m after popped) = record {
       step = Poll k;
-      next = with_line mesh ch.to.component (received_by to.runner ch.to.port m) k (record own.queue { held = more });
-      leads = record { way = way_of ch; queue = own.queue; line = line; m = m; rest = more; first = own.holds ∙ first; runner = to.runner; receiver = to.there; is = refl };
-    }
-
-    sends : of.held ch.from ≡ [] → (m : Msg) (more : List Msg) → outbox_of (slice_get mesh.runners ch.from.component) ch.from.port ≡ m ∷ more → CanStep b mesh
-    sends empty m more waits = record {
-      step = Send k;
-      next = with_line mesh ch.from.component (sent_by from.runner ch.from.port) k (record own.queue { held = own.queue.held ++ m ∷ [] });
-      leads = record {
-        way = way_of ch;
-        queue = own.queue;
-        line = line;
-        runner = from.runner;
-        sender = from.there;
-        m = m;
-        more = more;
-        waited = ap (λ found. outbox_of found ch.from.port) (sym from.there) ∙ waits;
-        room = (let none : length own.queue.held ≡ 0 = ap length (own.holds ∙ empty) in let some : 1 ≤ own.queue.slots = own.some_slot in omega arith);
-        is = refl;
+      enabled = record {
+        next = with_line mesh ch.to.component (received_by to.runner ch.to.port m) k after;
+        leads = record { way = way_of ch; carrier = own.carrier; line = line; m = m; after = after; popped = popped; runner = to.runner; receiver = to.there; is = refl };
       };
     }
+
+    -- what is under way goes on
+    passes : (m : Msg) (more : List Msg) → of.held ch.from ≡ m ∷ more → CanStep b mesh
+    passes m more first = on (goes_on own.carrier (of.sent ch.from) (of.received ch.to) own.carries (λ same. some_held (of.received ch.to) (of.held ch.from) m more (sym (of.whole.joined k ch is).between ∙ same) first))
+
+    -- all that was sent was received
+    all_received : of.held ch.from ≡ [] → of.sent ch.from ≡ of.received ch.to
+    all_received empty = (of.whole.joined k ch is).between ∙ ap (λ l. of.received ch.to ++ l) empty ∙ append-nil (of.received ch.to)
+
+    sends : of.held ch.from ≡ [] → (m : Msg) (more : List Msg) → outbox_of (slice_get mesh.runners ch.from.component) ch.from.port ≡ m ∷ more → CanStep b mesh
+    sends empty m more waits =
+        let room : HasRoomFor m own.carrier = has_room own.carrier (of.sent ch.from) m (subst (Carries own.carrier (of.sent ch.from)) (sym (all_received empty)) own.carries) in
+        record {
+          step = Send k;
+          enabled = record {
+            next = with_line mesh ch.from.component (sent_by from.runner ch.from.port) k room.after;
+            leads = record {
+              way = way_of ch;
+              carrier = own.carrier;
+              line = line;
+              runner = from.runner;
+              sender = from.there;
+              m = m;
+              more = more;
+              waited = ap (λ found. outbox_of found ch.from.port) (sym from.there) ∙ waits;
+              after = room.after;
+              pushed = room.pushed;
+              is = refl;
+            };
+          };
+        }
+
+    idle : of.held ch.from ≡ [] → IsIdle own.carrier
+    idle empty = (are_idle own.carrier (of.sent ch.from) (of.received ch.to) own.carries).1 (all_received empty)
 
   goes : CanProcess b mesh.runners → CanStep b mesh
   goes can = (let after : (r : Runner V) × IsAfter b can.runner can.next r = after_event b can.runner can.next can.enabled in record {
     step = Event can.component;
-    next = record mesh { runners = slice_set mesh.runners can.component after.0 };
-    leads = record { before = can.runner; there = can.there; after = after.0; processed = record { next = can.next; enabled = can.enabled; after = after.1 }; is = refl };
+    enabled = record {
+      next = record mesh { runners = slice_set mesh.runners can.component after.0 };
+      leads = record { before = can.runner; there = can.there; after = after.0; processed = record { next = can.next; enabled = can.enabled; after = after.1 }; is = refl };
+    };
   })
 
   -- a channel leads out of each port
@@ -147,7 +183,10 @@ module _ {V : Type 0} (b : Behaviour V) (settled : V → ℕ → Type 0) (starts
   still empty none = record { all_sent = λ c r r_at p o o_at. none_waits c r r_at p o o_at none; all_received = empty }
 
   over : HaveNone (λ (ch : Channel). of.held ch.from) (channels links) → HaveEnded b mesh.runners → IsOver b mesh
-  over empty all = record { ended = all; received = λ k way queue line. (let channel : IsChannelAt b settled starts links end mesh of k way = channel_at b settled starts links end mesh of k way line.leads in let own : HasQueue (map b.ports starts) channel.ch k (of.held channel.ch.from) mesh.queues = of.queues k channel.ch channel.at in ap (λ (q : Plain). q.held) (same_Some queue own.queue (sym line.between ∙ own.there)) ∙ own.holds ∙ empty k channel.ch channel.at) }
+  over empty all = record {
+    ended = all;
+    received = λ k way carrier line. (let channel : IsChannelAt b settled starts links end mesh of k way = channel_at b settled starts links end mesh of k way line.leads in subst IsIdle (same_Some (own k channel.ch channel.at).carrier carrier (sym (own k channel.ch channel.at).there ∙ line.between)) (idle k channel.ch channel.at (empty k channel.ch channel.at)));
+  }
 
   -- some step leads somewhere, or all is processed and received
   pub step_or_over : CanStep b mesh ⊎ IsOver b mesh
@@ -162,7 +201,7 @@ module _ {V : Type 0} (b : Behaviour V) (settled : V → ℕ → Type 0) (starts
       at_outboxes empty (inr none) = at_runners empty (all_ended_or_goes net settled end of.positions of.received of.sent of.held mesh.runners of.whole of.wired (still empty none))
 
       at_queues : HasSome (λ (ch : Channel). of.held ch.from) (channels links) ⊎ HaveNone (λ (ch : Channel). of.held ch.from) (channels links) → CanStep b mesh ⊎ IsOver b mesh
-      at_queues (inl some) = inl (polls some.place some.x some.there some.m some.more some.is)
+      at_queues (inl some) = inl (passes some.place some.x some.there some.m some.more some.is)
       at_queues (inr empty) = at_outboxes empty (some_or_none outbox_on (channels links))
 
   pub can_step : (HaveEnded b mesh.runners → ⊥) → CanStep b mesh

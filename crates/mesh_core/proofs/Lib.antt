@@ -1,5 +1,6 @@
 mod Ends
 mod Stepped
+mod Work
 mod Read
 mod Ended
 pub mod Built
@@ -11,7 +12,12 @@ pub mod Started
 mod Finished
 pub mod Outcomes
 mod Going
+mod Ending
+mod Flat
 mod Falling
 mod Numbered
 mod Walked
 mod Rounds
+mod Between
+pub mod Enabled
+pub mod Sent

@@ -25,7 +25,7 @@ use Rattle.mesh_core.proofs.Begun.{logs_are}
 use Rattle.mesh_core.proofs.Ends.{HasPort, mapped_at, sender}
 
 -- two lists of one length that agree at each place are one
-same_lists : {X : Type 0} (xs ys : List X) → length xs ≡ length ys → ((i : ℕ) (x y : X) → slice_get xs i ≡ Some x → slice_get ys i ≡ Some y → x ≡ y) → xs ≡ ys
+pub same_lists : {X : Type 0} (xs ys : List X) → length xs ≡ length ys → ((i : ℕ) (x y : X) → slice_get xs i ≡ Some x → slice_get ys i ≡ Some y → x ≡ y) → xs ≡ ys
 same_lists [] [] lengths agree = refl
 same_lists [] (y ∷ ys) lengths agree = absurd (let apart : 0 ≡ suc (length ys) = lengths in omega arith)
 same_lists (x ∷ xs) [] lengths agree = absurd (let apart : suc (length xs) ≡ 0 = lengths in omega arith)

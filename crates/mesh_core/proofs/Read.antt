@@ -1,22 +1,24 @@
--- What a mesh's code reads of a channel: the runner at one of its ends, and the queue.
+-- What a mesh's code reads of a channel: the runner at one of its ends, and what carries it.
 use Rattle.std.proofs.Common.{◌≡◌, ℕ, ◌<◌, Bool, List, length, get_or, Some, Ok, slice_get, refl, sym, ap, ◌∙◌, subst}
 use Rattle.std.proofs.lemmas.Option.{same_Some, slice_get_within, slice_get_read}
 use Rattle.sb_message.specs.declared.message.Msg.{Msg}
 use Rattle.device_api.specs.Behaviour.{Behaviour}
-use Rattle.port_queue.specs.Plain.{Plain, Pushes, Refuses, Pops, Empties, StandsForSent}
+use Rattle.mesh_channel.specs.declared.carrier.Carrier.{Carrier}
+use Rattle.mesh_channel.specs.Carrier.{kind_sent, Pushes, Refuses, Pops, Empties}
+use Rattle.mesh_channel.specs.Standing.{StandsSent}
 use Rattle.run_steps.specs.declared.step.Step.TheVariants.{Send, Poll}
 use Rattle.sync_rule.specs.declared.runner.Runner.{Runner}
 use Rattle.sync_rule.specs.Steps.{MaySendNext, Sends, Polls, IsWrongIntro, IsIntroduction, introduced_at}
 use Rattle.mesh_core.specs.declared.way.Way.{Way}
 use Rattle.mesh_core.specs.State.{State}
 use Rattle.mesh_core.specs.MeshOf.{IsMesh}
-use Rattle.mesh_core.specs.Steps.{Steps, with_line}
-use Rattle.mesh_core.proofs.Ends.{HasSender, HasReceiver, sender_in, receiver_in}
+use Rattle.mesh_core.specs.Steps.{IsLine, Steps, with_line}
+use Rattle.mesh_core.proofs.Ends.{HasSender, HasReceiver, sender_in, receiver_in, carrier_there}
 use Rattle.mesh_core.proofs.Stepped.{send_steps, poll_steps}
 
-module _ {V : Type 0} (b : Behaviour V) (settled : V → ℕ → Type 0) (runners : List (Runner V)) (ways : List Way) (queues : List Plain) (mesh : State V) (view : record { runners = runners; ways = ways; queues = queues } ≡ mesh) (is : IsMesh b settled mesh) (k : ℕ) (way : Way) (lt : k < length ways) (read : way ≡ get_or ways k way) where
+module _ {V : Type 0} (b : Behaviour V) (settled : V → ℕ → Type 0) (runners : List (Runner V)) (ways : List Way) (carriers : List Carrier) (mesh : State V) (view : record { runners = runners; ways = ways; carriers = carriers } ≡ mesh) (is : IsMesh b settled mesh) (k : ℕ) (way : Way) (lt : k < length ways) (read : way ≡ get_or ways k way) where
   abbrev seen : State V
-  seen = record { runners = runners; ways = ways; queues = queues }
+  seen = record { runners = runners; ways = ways; carriers = carriers }
 
   seen_is : IsMesh b settled seen
   seen_is = subst (IsMesh b settled) (sym view) is
@@ -36,33 +38,36 @@ module _ {V : Type 0} (b : Behaviour V) (settled : V → ℕ → Type 0) (runner
   pub receiver_within : way.to.component < length runners
   receiver_within = slice_get_within runners way.to.component line_in.runner line_in.there
 
-  pub queue_within : k < length queues
-  queue_within = slice_get_within queues k line.queue line.between
+  pub carrier_within : k < length carriers
+  carrier_within = carrier_there b settled seen seen_is k way leads
 
-  module _ (queue : Plain) (queue_read : queue ≡ get_or queues k queue) where
-    queue_there : slice_get queues k ≡ Some queue
-    queue_there = slice_get_read queues (length queues) k queue refl queue_within queue_read
+  module _ (carrier : Carrier) (carrier_read : carrier ≡ get_or carriers k carrier) where
+    found : slice_get carriers k ≡ Some carrier
+    found = slice_get_read carriers (length carriers) k carrier refl carrier_within carrier_read
+
+    at_line : IsLine seen k way carrier
+    at_line = record { leads = leads; between = found }
 
     module _ (r : Runner V) (r_read : r ≡ get_or runners way.from.component r) where
       r_there : slice_get runners way.from.component ≡ Some r
       r_there = slice_get_read runners (length runners) way.from.component r refl sender_within r_read
 
-      pub may_send : MaySendNext r way.from.port queue.kind (StandsForSent queue)
-      may_send = subst (λ (q : Plain). MaySendNext r way.from.port q.kind (StandsForSent q)) (same_Some line.queue queue (sym line.between ∙ queue_there)) (subst (λ (x : Runner V). MaySendNext x way.from.port line.queue.kind (StandsForSent line.queue)) (same_Some line.runner r (sym line.there ∙ r_there)) line.may_send)
+      pub may_send : MaySendNext r way.from.port (kind_sent carrier) (StandsSent carrier)
+      may_send = subst (λ c. MaySendNext r way.from.port (kind_sent c) (StandsSent c)) (same_Some line.carrier carrier (sym line.between ∙ found)) (subst (λ (x : Runner V). MaySendNext x way.from.port (kind_sent line.carrier) (StandsSent line.carrier)) (same_Some line.runner r (sym line.there ∙ r_there)) line.may_send)
 
-      pub has_sent : (r' : Runner V) (queue' : Plain) (moved : Bool) → Sends (λ m. Pushes queue m queue') (Refuses queue queue') (queue' ≡ queue) r r' way.from.port moved → Steps b (Send k) mesh (with_line seen way.from.component r' k queue') moved
-      has_sent r' queue' moved sends = subst (λ old. Steps b (Send k) old (with_line seen way.from.component r' k queue') moved) view (send_steps b seen k way queue queue' r r' (record { leads = leads; between = queue_there }) moved r_there sends)
+      pub has_sent : (r' : Runner V) (carrier' : Carrier) (moved : Bool) → Sends (λ m. Pushes carrier m carrier') (Refuses carrier carrier') (carrier' ≡ carrier) r r' way.from.port moved → Steps b (Send k) mesh (with_line seen way.from.component r' k carrier') moved
+      has_sent r' carrier' moved sends = subst (λ old. Steps b (Send k) old (with_line seen way.from.component r' k carrier') moved) view (send_steps b seen k way carrier carrier' at_line r r' moved r_there sends)
 
     module _ (r : Runner V) (r_read : r ≡ get_or runners way.to.component r) where
       receiver_there : slice_get runners way.to.component ≡ Some r
       receiver_there = slice_get_read runners (length runners) way.to.component r refl receiver_within r_read
 
-      pub has_received : (r' : Runner V) (queue' : Plain) (moved : Bool) → Polls (λ m. Pops queue m queue') (Empties queue queue') (queue' ≡ queue) r r' way.to.port (Ok moved) → Steps b (Poll k) mesh (with_line seen way.to.component r' k queue') moved
-      has_received r' queue' moved polls = subst (λ old. Steps b (Poll k) old (with_line seen way.to.component r' k queue') moved) view (poll_steps b seen k way queue queue' r r' (record { leads = leads; between = queue_there }) moved receiver_there polls)
+      pub has_received : (r' : Runner V) (carrier' : Carrier) (moved : Bool) → Polls (λ m. Pops carrier m carrier') (Empties carrier carrier') (carrier' ≡ carrier) r r' way.to.port (Ok moved) → Steps b (Poll k) mesh (with_line seen way.to.component r' k carrier') moved
+      has_received r' carrier' moved polls = subst (λ old. Steps b (Poll k) old (with_line seen way.to.component r' k carrier') moved) view (poll_steps b seen k way carrier carrier' at_line r r' moved receiver_there polls)
 
       -- the first message of a channel is never wrong
-      pub never_wrong : (queue' : Plain) (port : ℕ) (found : Msg) → IsWrongIntro (λ m. Pops queue m queue') r way.to.port port found → ⊥
-      never_wrong queue' port found wrong = wrong.wrong (subst (λ (x : Runner V). IsIntroduction x way.to.port found) same (line_in.first_is (ap (λ (x : Runner V). introduced_at (slice_get x.incoming way.to.port)) same ∙ wrong.first) found queue'.held (ap (λ (q : Plain). q.held) (same_Some line_in.queue queue (sym line_in.between ∙ queue_there)) ∙ ap (λ (q : Plain). q.held) wrong.popped)))
+      pub never_wrong : (carrier' : Carrier) (port : ℕ) (first : Msg) → IsWrongIntro (λ m. Pops carrier m carrier') r way.to.port port first → ⊥
+      never_wrong carrier' port first wrong = wrong.wrong (subst (λ (x : Runner V). IsIntroduction x way.to.port first) same (line_in.first_is (ap (λ (x : Runner V). introduced_at (slice_get x.incoming way.to.port)) same ∙ wrong.first) first carrier' (subst (λ c. Pops c first carrier') (sym (same_Some line_in.carrier carrier (sym line_in.between ∙ found))) wrong.popped)))
         where
           same : line_in.runner ≡ r
           same = same_Some line_in.runner r (sym line_in.there ∙ receiver_there)

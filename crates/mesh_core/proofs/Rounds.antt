@@ -28,7 +28,7 @@ module _ {V : Type 0} (b : Behaviour V) (settled : V → ℕ → Type 0) (lawful
     where
       at : CanStep b old ⊎ IsOver b old → IsOver b old
       at (inr done) = done
-      at (inl can) = absurd (round.at_rest unmoved everyone can.step can.next can.leads)
+      at (inl can) = absurd (round.at_rest unmoved everyone can.step can.enabled)
 
       over : IsMesh b settled old → IsOver b old
       over (starts, links, end, of) = at (step_or_over b settled starts links end old of)

@@ -6,6 +6,8 @@ use Rattle.std.proofs.lemmas.Option.{none-some, same_Some, slice_get-map}
 use Rattle.std.proofs.lemmas.List.Elements.{All-head, All-tail}
 use Rattle.cs_base.specs.declared.link.Link.{Link}
 use Rattle.cs_base.specs.declared.port_kind.PortKind.{PortKind}
+use Rattle.cs_base.specs.declared.port_kind.Via.{Via}
+use Rattle.cs_base.specs.declared.port_kind.Via.TheVariants.{Queue, Proxy}
 use Rattle.cs_base.specs.Plan.{IsPlan, Joins, kind_at}
 use Rattle.device_api.specs.Behaviour.{Behaviour, IsLawful}
 use Rattle.device_api.specs.Channels.{Channel, channels}
@@ -16,7 +18,9 @@ use Rattle.sync_rule.specs.declared.runner.Runner.{Runner}
 use Rattle.sync_rule.specs.Ports.{In, Out, first_in, first_out}
 use Rattle.sync_laws.specs.Whole.{IsPlannedBy, AreStarted}
 use Rattle.sync_laws.proofs.FirstWhole.{start_whole}
-use Rattle.mesh_core.specs.Start.{numbered, two_each, plan_at, plans_of, first_runner, first_runners, kind_or, queue_to, queues_of, first_mesh}
+use Rattle.mesh_core.specs.Start.{numbered, two_each, plan_at, plans_of, first_runner, first_runners, kind_or, carrier_to, carriers_of, first_mesh}
+use Rattle.mesh_channel.specs.Carrier.{kind_sent, unused}
+use Rattle.mesh_channel.proofs.Kept.{begin}
 use Rattle.mesh_core.specs.MeshOf.{IsMeshOf}
 use Rattle.mesh_core.proofs.Ends.{some_mapped}
 use Rattle.mesh_core.proofs.Runners.{numbered_at, length-numbered, kinds_kept, all_planned, plan_is, plan_back, all_in}
@@ -33,17 +37,21 @@ pub kind_there : (kind : Option PortKind) → is_some kind ≡ true → kind ≡
 kind_there None some = absurd (false≢true some)
 kind_there (Some kind) some = refl
 
-record HasSlots (kinds : List (List PortKind)) (links : List Link) (k : ℕ) (ch : Channel) : Type 0 where
-  slots : ℕ
-  some : 1 ≤ slots
-  there : slice_get (queues_of kinds links) k ≡ Some (queue_to kinds slots ch.to)
+kind_unused : (via : Via) (kind : PortKind) (slots : ℕ) → kind_sent (unused via kind slots) ≡ kind
+kind_unused Queue kind slots = refl
+kind_unused Proxy kind slots = refl
 
-queue_at : (kinds : List (List PortKind)) (links : List Link) → All (Joins kinds) links → (k : ℕ) (ch : Channel) → slice_get (channels links) k ≡ Some ch → HasSlots kinds links k ch
+record HasSlots (kinds : List (List PortKind)) (links : List Link) (k : ℕ) (ch : Channel) : Type 0 where
+  link : Link
+  some : 1 ≤ link.slots
+  there : slice_get (carriers_of kinds links) k ≡ Some (carrier_to kinds link ch.to)
+
+carrier_at : (kinds : List (List PortKind)) (links : List Link) → All (Joins kinds) links → (k : ℕ) (ch : Channel) → slice_get (channels links) k ≡ Some ch → HasSlots kinds links k ch
 unfolding two_each
-queue_at kinds [] joins k ch is = absurd (none-some ch is)
-queue_at kinds (link ∷ more) joins zero ch is = record { slots = link.slots; some = (All-head (Joins kinds) link more joins).limits.some_slot; there = ap (λ (x : Channel). Some (queue_to kinds link.slots x.to)) (same_Some _ ch is) }
-queue_at kinds (link ∷ more) joins (suc zero) ch is = record { slots = link.slots; some = (All-head (Joins kinds) link more joins).limits.some_slot; there = ap (λ (x : Channel). Some (queue_to kinds link.slots x.to)) (same_Some _ ch is) }
-queue_at kinds (link ∷ more) joins (suc (suc k)) ch is = (let there : HasSlots kinds more k ch = queue_at kinds more (All-tail (Joins kinds) link more joins) k ch is in record { slots = there.slots; some = there.some; there = there.there })
+carrier_at kinds [] joins k ch is = absurd (none-some ch is)
+carrier_at kinds (link ∷ more) joins zero ch is = record { link = link; some = (All-head (Joins kinds) link more joins).limits.some_slot; there = ap (λ (x : Channel). Some (carrier_to kinds link x.to)) (same_Some _ ch is) }
+carrier_at kinds (link ∷ more) joins (suc zero) ch is = record { link = link; some = (All-head (Joins kinds) link more joins).limits.some_slot; there = ap (λ (x : Channel). Some (carrier_to kinds link x.to)) (same_Some _ ch is) }
+carrier_at kinds (link ∷ more) joins (suc (suc k)) ch is = (let there : HasSlots kinds more k ch = carrier_at kinds more (All-tail (Joins kinds) link more joins) k ch is in record { link = there.link; some = there.some; there = there.there })
 
 module _ {V : Type 0} (b : Behaviour V) (settled : V → ℕ → Type 0) (lawful : IsLawful b settled) (starts : List V) (links : List Link) (end : ℕ) (wired : IsPlan end (map b.ports starts) links) (at_start : All (λ (device : V). settled device 0) starts) where
   runner_is : (c : ℕ) (r : Runner V) → slice_get (first_runners b links end starts) c ≡ Some r → IsMadeOf (first_runner b links end) c starts r
@@ -81,5 +89,5 @@ module _ {V : Type 0} (b : Behaviour V) (settled : V → ℕ → Type 0) (lawful
     held = λ at. [];
     whole = start_whole (network b starts links) settled lawful end (first_runners b links end starts) wired.sized.short_time are_started;
     ways = refl;
-    queues = λ k ch is. (let slots : HasSlots (map b.ports starts) links k ch = queue_at (map b.ports starts) links wired.links_join k ch is in record { queue = queue_to (map b.ports starts) slots.slots ch.to; there = slots.there; some_slot = slots.some; holds = refl; kind = kind_there (kind_at (map b.ports starts) ch.to) (channel_joined (network b starts links) wired k ch is).at_receiver });
+    carriers = λ k ch is. (let slots : HasSlots (map b.ports starts) links k ch = carrier_at (map b.ports starts) links wired.links_join k ch is in record { carrier = carrier_to (map b.ports starts) slots.link ch.to; there = slots.there; carries = begin slots.link.via (kind_or (kind_at (map b.ports starts) ch.to)) slots.link.slots slots.some; kind = kind_there (kind_at (map b.ports starts) ch.to) (channel_joined (network b starts links) wired k ch is).at_receiver ∙ ap Some (sym (kind_unused slots.link.via (kind_or (kind_at (map b.ports starts) ch.to)) slots.link.slots)) });
   }

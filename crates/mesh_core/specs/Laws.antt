@@ -17,7 +17,7 @@ use Rattle.run_steps.specs.declared.step.Step.{Step}
 use Rattle.sync_rule.specs.declared.runner.Runner.{Runner}
 use Rattle.sync_laws.specs.Whole.{HaveEnded}
 use Rattle.mesh_core.specs.State.{State}
-use Rattle.mesh_core.specs.Steps.{Leads, Steps}
+use Rattle.mesh_core.specs.Steps.{Enables, Steps}
 use Rattle.mesh_core.specs.MeshOf.{IsMeshOf}
 use Rattle.mesh_core.specs.Start.{first_mesh}
 use Rattle.mesh_core.specs.Left.{logs_left, counts_left}
@@ -56,11 +56,10 @@ LeavesLogs {V} b settled = (starts : List V) (links : List Link) (end : ℕ) (me
 abbrev pub LeavesCounts : {V : Type 0} → Behaviour V → (V → ℕ → Type 0) → Type 0
 LeavesCounts {V} b settled = (starts : List V) (links : List Link) (end : ℕ) (mesh : State V) → IsMeshOf b settled starts links end mesh → HaveEnded b mesh.runners → counts_left mesh ≡ counts_of (network b starts links) end
 
--- some step of a mesh leads somewhere
+-- some step of a mesh is enabled
 pub record CanStep {V : Type 0} (b : Behaviour V) (mesh : State V) : Type 0 where
   pub step : Step
-  pub next : State V
-  pub leads : Leads b step mesh next
+  pub enabled : Enables b step mesh
 
 -- a mesh in which not all components have ended can step
 abbrev pub NeverStuck : {V : Type 0} → Behaviour V → (V → ℕ → Type 0) → Type 0

@@ -12,6 +12,8 @@ use Rattle.sync_rule.specs.declared.port_plan.PortPlan.{PortPlan}
 use Rattle.sync_rule.specs.declared.runner.Runner.{Runner}
 use Rattle.sync_rule.specs.Steps.{started}
 use Rattle.mesh_core.specs.declared.build.Times.{Times}
+use Rattle.mesh_channel.specs.declared.carrier.Carrier.{Carrier}
+use Rattle.mesh_channel.specs.Carrier.{unused}
 use Rattle.mesh_core.specs.State.{State, way_of}
 
 -- what is made of each element of a list and its number, the first one having number n
@@ -48,11 +50,12 @@ first_runner b links end c device = started device (plans_of links c (b.ports de
 abbrev pub first_runners : {V : Type 0} → Behaviour V → List Link → ℕ → List V → List (Runner V)
 first_runners b links end devices = numbered (first_runner b links end) 0 devices
 
--- the queue of a channel to a port, which is there in a wiring
+-- the kind of a port, which is there in a wiring
 abbrev pub kind_or : Option PortKind → PortKind
 kind_or None = Eth
 kind_or (Some kind) = kind
 
+-- the queue of a channel to a port, where no link goes by proxy
 abbrev pub queue_to : List (List PortKind) → ℕ → End → Plain
 queue_to kinds slots to = record { kind = kind_or (kind_at kinds to); slots = slots; held = [] }
 
@@ -60,6 +63,14 @@ queue_to kinds slots to = record { kind = kind_or (kind_at kinds to); slots = sl
 abbrev pub queues_of : List (List PortKind) → List Link → List Plain
 queues_of kinds links = two_each (λ link. queue_to kinds link.slots (second_end link)) (λ link. queue_to kinds link.slots (first_end link)) links
 
+-- what carries a channel of a link to a port
+abbrev pub carrier_to : List (List PortKind) → Link → End → Carrier
+carrier_to kinds link to = unused link.via (kind_or (kind_at kinds to)) link.slots
+
+-- what carries the two channels of each link
+abbrev pub carriers_of : List (List PortKind) → List Link → List Carrier
+carriers_of kinds links = two_each (λ link. carrier_to kinds link (second_end link)) (λ link. carrier_to kinds link (first_end link)) links
+
 -- the mesh of devices that are joined by links
 abbrev pub first_mesh : {V : Type 0} → Behaviour V → List V → List Link → ℕ → State V
-first_mesh b devices links end = record { runners = first_runners b links end devices; ways = map way_of (channels links); queues = queues_of (map b.ports devices) links }
+first_mesh b devices links end = record { runners = first_runners b links end devices; ways = map way_of (channels links); carriers = carriers_of (map b.ports devices) links }

@@ -1,8 +1,8 @@
--- Where a mesh has come: its components, the queues of its channels, and where those lead.
+-- Where a mesh has come: its components, what carries its channels, and where those lead.
 use Rattle.std.specs.Prelude.{List}
 use Rattle.cs_base.specs.Plan.{End}
 use Rattle.device_api.specs.Channels.{Channel}
-use Rattle.port_queue.specs.Plain.{Plain}
+use Rattle.mesh_channel.specs.declared.carrier.Carrier.{Carrier}
 use Rattle.sync_rule.specs.declared.runner.Runner.{Runner}
 use Rattle.mesh_core.specs.declared.way.Seat.{Seat}
 use Rattle.mesh_core.specs.declared.way.Way.{Way}
@@ -15,8 +15,8 @@ seat_of end = record { component = end.component; port = end.port }
 abbrev pub way_of : Channel → Way
 way_of ch = record { from = seat_of ch.from; to = seat_of ch.to }
 
--- the runners of all components, and by the numbers of channels where each leads and the queue between its ends
+-- the runners of all components, and by the numbers of channels where each leads and what carries it between its ends
 pub record State (V : Type 0) : Type 0 where
   pub runners : List (Runner V)
   pub ways : List Way
-  pub queues : List Plain
+  pub carriers : List Carrier

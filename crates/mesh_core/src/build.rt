@@ -4,7 +4,7 @@ ghost use Rattle.cs_base.specs.Plan.{IsPlan, IsWithinLimits, kind_at};
 ghost use Rattle.device_api.specs.Channels.{channels};
 ghost use Rattle.sync_rule.specs.Ports.{IsPlanned};
 ghost use Rattle.mesh_core.specs.State.{way_of};
-ghost use Rattle.mesh_core.specs.Start.{plan_at, plans_of, first_runner, first_runners, kind_or, queues_of, times_from};
+ghost use Rattle.mesh_core.specs.Start.{plan_at, plans_of, first_runner, first_runners, kind_or, carriers_of, times_from};
 
 use crate::way::{Seat, Way};
 use cs_base::items::Items;
@@ -14,7 +14,7 @@ use cs_base::no_memory::NoMemory;
 use cs_base::port_kind::PortKind;
 use cs_base::time::Time;
 use device_api::Device;
-use port_queue::PlainQueue;
+use mesh_channel::Carrier;
 use std::alloc::Global;
 use sync_rule::{PortPlan, Runner};
 
@@ -158,19 +158,21 @@ pub fn kind_of(kinds: &[Items<PortKind>], component: u32, port: u32) -> PortKind
     }
 }
 
-/// The queues of the channels.
-pub fn queues_of(
+/// What carries the channels.
+pub fn carriers_of(
     alloc: Global,
     kinds: &[Items<PortKind>],
     links: &[Link],
-) -> Result<Vec<PlainQueue>, NoMemory>
+) -> Result<Vec<Carrier>, NoMemory>
     requires { All IsWithinLimits links.now }
-    ensures { IfOk result (λ queues. queues.items ≡ queues_of kinds.now links.now) }
+    ensures { IfOk result (λ carriers. carriers.items ≡ carriers_of kinds.now links.now) }
 {
-    let mut queues = Vec::new(alloc);
+    let mut carriers = Vec::new(alloc);
     for link in links {
-        queues.push(PlainQueue::new(alloc, link.slots, kind_of(kinds, link.b, link.b_port))?)?;
-        queues.push(PlainQueue::new(alloc, link.slots, kind_of(kinds, link.a, link.a_port))?)?;
+        let there = kind_of(kinds, link.b, link.b_port);
+        carriers.push(Carrier::new(alloc, link.via, there, link.slots)?)?;
+        let back = kind_of(kinds, link.a, link.a_port);
+        carriers.push(Carrier::new(alloc, link.via, back, link.slots)?)?;
     }
-    Ok(queues)
+    Ok(carriers)
 }

@@ -1,32 +1,30 @@
 ghost use Rattle.std.specs.Prelude.{◌≡◌, ◌↔◌, ◌||◌, Bool, IsTrue, IfOk, All, length, map, ℕ};
-ghost use Rattle.cs_base.specs.declared.link.Link.{Link};
-ghost use Rattle.cs_base.specs.declared.port_kind.Via.TheVariants.{Queue};
 ghost use Rattle.sync_laws.specs.Whole.{HaveEnded};
-ghost use Rattle.run_steps.specs.declared.step.Step.TheVariants.{Event, Send as Sent, Poll};
+ghost use Rattle.run_steps.specs.declared.step.Step.TheVariants.{Event, Send as Sent, Poll, Take, Move, Put};
 ghost use Rattle.mesh_core.specs.declared.serial.Awake.TheVariants.{Everyone};
 
-use crate::build::{queues_of, runners_of, ways_of};
+use crate::build::{carriers_of, runners_of, ways_of};
 use crate::outcome::{Room, count_all, finish_all};
 use crate::seen::Seen;
-use crate::serial::{Awake, Woken};
+use crate::serial::{Awake, Woken, either};
 use crate::way::Way;
 use cs_base::items::Items;
 use cs_base::no_memory::NoMemory;
 use cs_base::wiring::Wiring;
 use device_api::{Device, Logs, Outcome};
-use port_queue::PlainQueue;
+use mesh_channel::Carrier;
 use run_steps::Step;
 use std::alloc::Global;
 use std::marker::Model;
 use sync_rule::{RunBad, Runner};
 
-/// All components of a system on local clocks, each with its log, and a queue for each channel. Nothing happens in it
-/// but what a step does. After `NoMemory` it is spent: nothing is told of it.
+/// All components of a system on local clocks, each with its log, and for each channel a queue, or two queues and a byte
+/// stream between them where its link goes by proxies. Nothing happens in it but what a step does. After `NoMemory` it is spent: nothing is told of it.
 #[derive(Drop)]
 pub struct Mesh<V> {
     runners: Vec<Runner<V>>,
     ways: Vec<Way>,
-    queues: Vec<PlainQueue>,
+    carriers: Vec<Carrier>,
     room: Room,
 }
 
@@ -37,7 +35,7 @@ impl<V> Model for Mesh<V> {
 
     ghost Value = { State V };
 
-    ghost view = { λ mesh. record { runners = mesh.runners.items; ways = mesh.ways.items; queues = mesh.queues.items } };
+    ghost view = { λ mesh. record { runners = mesh.runners.items; ways = mesh.ways.items; carriers = mesh.carriers.items } };
 
     ghost invariant = { λ mesh. IsRoomFor (vec_len mesh.runners) (vec_len mesh.ways) mesh.room };
 }
@@ -47,25 +45,24 @@ impl<V: Device> Mesh<V> {
     ghost use Rattle.mesh_core.specs.Steps.{Steps};
     ghost use Rattle.mesh_core.specs.MeshOf.{IsMesh};
     ghost use Rattle.mesh_core.specs.Left.{logs_left, counts_left};
-    ghost use Rattle.mesh_core.specs.Walk.{WentToTheEnd, Rounds, RunsEach, RunsOn, CarriesEach, Carries};
+    ghost use Rattle.mesh_core.specs.Walk.{WentToTheEnd, Rounds, RunsEach, RunsOn, CarriesEach, Carries, PassesOn, MovesAll};
 
-    /// A mesh of devices at their start, joined by a wiring of which no link goes by proxy.
+    /// A mesh of devices at their start, joined by a wiring.
     pub fn new(alloc: Global, devices: Vec<V>, wiring: &Wiring) -> Result<Mesh<V>, NoMemory>
         requires matches { map V.behaviour.ports devices.items ≡ wiring.now.kinds }
         requires at_start { All (λ device. V.settled device 0) devices.items }
-        requires by_queues { All (λ (link : Link). link.via ≡ Queue) wiring.now.links }
         ensures { IfOk result (λ mesh. mesh ≡ first_mesh V.behaviour devices.items wiring.now.links wiring.now.end) }
     {
         let kinds = wiring.kinds.as_slice();
         let links = wiring.links.as_slice();
         let ways = ways_of(alloc, links)?;
-        let queues = queues_of(alloc, kinds, links)?;
+        let carriers = carriers_of(alloc, kinds, links)?;
         let runners = runners_of(alloc, devices, kinds, links, wiring.end)?;
         let room = Room::new(alloc, runners.len(), ways.len())?;
         Ok(Mesh {
             runners,
             ways,
-            queues,
+            carriers,
             room,
         })
     }
@@ -79,7 +76,9 @@ impl<V: Device> Mesh<V> {
             Step::Event(component) => self.event(alloc, component),
             Step::Send(channel) => Ok(self.send(channel as usize)),
             Step::Poll(channel) => self.poll(channel as usize),
-            Step::Take(_) | Step::Move(_, _) | Step::Put(_) => Ok(false),
+            Step::Take(channel) => self.take(channel as usize),
+            Step::Move(channel, n) => self.move_bytes(channel as usize, n),
+            Step::Put(channel) => Ok(self.put(channel as usize)),
         }
     }
 
@@ -102,7 +101,7 @@ impl<V: Device> Mesh<V> {
             return false;
         }
         let from = self.ways[channel].from;
-        self.runners[from.component as usize].send(from.port, &mut self.queues[channel])
+        self.runners[from.component as usize].send(from.port, &mut self.carriers[channel])
     }
 
     fn poll(&mut self, channel: usize) -> Result<bool, NoMemory>
@@ -113,12 +112,42 @@ impl<V: Device> Mesh<V> {
             return Ok(false);
         }
         let to = self.ways[channel].to;
-        match self.runners[to.component as usize].poll(to.port, &mut self.queues[channel]) {
+        match self.runners[to.component as usize].poll(to.port, &mut self.carriers[channel]) {
             Ok(moved) => Ok(moved),
             Err(RunBad::NoMemory) => Err(NoMemory),
             // A channel of a mesh begins with its introduction.
             Err(RunBad::WrongIntro { .. }) => Ok(false),
         }
+    }
+
+    fn take(&mut self, channel: usize) -> Result<bool, NoMemory>
+        requires { IsMesh V.behaviour V.settled self.old }
+        ensures { IfOk result (Steps V.behaviour (Take channel) self.old self.new) }
+    {
+        if channel >= self.ways.len() {
+            return Ok(false);
+        }
+        self.carriers[channel].take()
+    }
+
+    fn move_bytes(&mut self, channel: usize, n: u64) -> Result<bool, NoMemory>
+        requires { IsMesh V.behaviour V.settled self.old }
+        ensures { IfOk result (Steps V.behaviour (Move channel n) self.old self.new) }
+    {
+        if channel >= self.ways.len() {
+            return Ok(false);
+        }
+        self.carriers[channel].move_bytes(n)
+    }
+
+    fn put(&mut self, channel: usize) -> bool
+        requires { IsMesh V.behaviour V.settled self.old }
+        ensures { Steps V.behaviour (Put channel) self.old self.new result }
+    {
+        if channel >= self.ways.len() {
+            return false;
+        }
+        self.carriers[channel].put()
     }
 
     /// Takes steps that are enabled until all components have ended and all that was sent is received. It takes no memory
@@ -154,7 +183,8 @@ impl<V: Device> Mesh<V> {
 
     fn run_each(&mut self, alloc: Global, awake: Awake) -> Result<Woken, NoMemory>
         requires { IsMesh V.behaviour V.settled self.old }
-        ensures { IfOk result (λ woken. RunsEach V.behaviour awake (length self.old.runners) self.old self.new woken.moved) }
+        ensures { IfOk result (λ woken.
+            RunsEach V.behaviour awake (length self.old.runners) self.old self.new woken.moved) }
     {
         let components = self.runners.len();
         let mut woken = Woken::none();
@@ -208,7 +238,7 @@ impl<V: Device> Mesh<V> {
         Ok(woken.along(moved, way))
     }
 
-    /// Sends the messages that wait on a channel and receives those in its queue, for as long as either may be.
+    /// Makes the steps on a channel, for as long as one may be.
     fn carry_all(&mut self, channel: usize) -> Result<bool, NoMemory>
         requires { IsMesh V.behaviour V.settled self.old }
         ensures { IfOk result (Carries V.behaviour Everyone channel self.old self.new) }
@@ -225,14 +255,41 @@ impl<V: Device> Mesh<V> {
         }
     }
 
-    /// Sends the first message that waits on a channel, and receives the first that is in its queue.
+    /// Sends the first message that waits on a channel, lets what is between its ends go on, and receives the first message
+    /// that is there.
     fn carry_one(&mut self, channel: usize) -> Result<bool, NoMemory>
         requires { IsMesh V.behaviour V.settled self.old }
         ensures { IfOk result (Carries V.behaviour Everyone channel self.old self.new) }
     {
         let sent = self.send(channel);
+        let passed = self.pass_on(channel)?;
         let got = self.poll(channel)?;
-        Ok(sent || got)
+        let begun = either(sent, passed);
+        Ok(either(begun, got))
+    }
+
+    /// On a channel that goes by proxies, takes the next message, moves all bytes that are in the pipe, and puts the first
+    /// message that was read.
+    fn pass_on(&mut self, channel: usize) -> Result<bool, NoMemory>
+        requires { IsMesh V.behaviour V.settled self.old }
+        ensures { IfOk result (PassesOn V.behaviour channel self.old self.new) }
+    {
+        let taken = self.take(channel)?;
+        let moved = self.move_all(channel)?;
+        let placed = self.put(channel);
+        let begun = either(taken, moved);
+        Ok(either(begun, placed))
+    }
+
+    fn move_all(&mut self, channel: usize) -> Result<bool, NoMemory>
+        requires { IsMesh V.behaviour V.settled self.old }
+        ensures { IfOk result (MovesAll V.behaviour channel self.old self.new) }
+    {
+        if channel >= self.ways.len() {
+            return Ok(false);
+        }
+        let bytes = self.carriers[channel].in_pipe();
+        self.move_bytes(channel, bytes as u64)
     }
 
     /// Whether all components have ended.
@@ -250,10 +307,10 @@ impl<V: Device> Mesh<V> {
         let Mesh {
             runners,
             ways,
-            queues,
+            carriers,
             room,
         } = self;
-        drop(queues);
+        drop(carriers);
         let Room {
             mut logs,
             mut by_port,

@@ -96,6 +96,12 @@ impl Woken {
     }
 }
 
+pub fn either(first: bool, second: bool) -> bool
+    ensures { result ≡ first || second }
+{
+    first || second
+}
+
 fn bit(component: usize) -> u64 {
     1 << (component % 64)
 }

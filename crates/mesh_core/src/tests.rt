@@ -1,8 +1,6 @@
 //! Two beacons that are joined by a link, stepped by hand and at random.
 ghost use Rattle.std.specs.Prelude.{◌≡◌, ◌≤◌, ◌^◌, ◌∷◌, [], All, map, IfOk};
-ghost use Rattle.cs_base.specs.declared.link.Link.{Link as LinkOf};
 ghost use Rattle.cs_base.specs.declared.port_kind.PortKind.TheVariants.{Eth as Ethernet};
-ghost use Rattle.cs_base.specs.declared.port_kind.Via.TheVariants.{Queue as ByQueue};
 ghost use Rattle.device_api.specs.Beacon.{IsSettledBeacon};
 
 use crate::laws::{a_new_mesh_stands, each_step_keeps_a_mesh_standing};
@@ -25,15 +23,13 @@ fn one_port(alloc: Global) -> Result<Items<PortKind>, Fail>
 
 fn pair(alloc: Global, end: u64) -> Result<Wiring, Fail>
     ensures kinds { IfOk result (λ wiring. wiring.kinds ≡ (Ethernet ∷ []) ∷ ((Ethernet ∷ []) ∷ [])) }
-    ensures by_queues { IfOk result (λ wiring. All (λ (link : LinkOf). link.via ≡ ByQueue) wiring.links) }
 {
-    pair_by(alloc, end, 500, 2)
+    pair_by(alloc, end, 500, 2, Via::Queue)
 }
 
-/// Two beacons whose link has these times and so many places.
-fn pair_by(alloc: Global, end: u64, latency: u64, slots: u32) -> Result<Wiring, Fail>
+/// Two beacons whose link has these times and so many places, and goes in this way.
+fn pair_by(alloc: Global, end: u64, latency: u64, slots: u32, via: Via) -> Result<Wiring, Fail>
     ensures kinds { IfOk result (λ wiring. wiring.kinds ≡ (Ethernet ∷ []) ∷ ((Ethernet ∷ []) ∷ [])) }
-    ensures by_queues { IfOk result (λ wiring. All (λ (link : LinkOf). link.via ≡ ByQueue) wiring.links) }
 {
     let mut kinds = Items::new(alloc);
     kinds.push(one_port(alloc)?)?;
@@ -47,7 +43,7 @@ fn pair_by(alloc: Global, end: u64, latency: u64, slots: u32) -> Result<Wiring, 
         latency: Time(latency),
         interval: Time(latency),
         slots,
-        via: Via::Queue,
+        via,
     })?;
     Ok(Wiring::new(Time(end), kinds, links).ok_or("no wiring")?)
 }
@@ -83,7 +79,6 @@ fn walk<V: Device>(
 ) -> Result<Walked, NoMemory>
     requires matches { map V.behaviour.ports devices.items ≡ wiring.now.kinds }
     requires at_start { All (λ device. V.settled device 0) devices.items }
-    requires by_queues { All (λ (link : LinkOf). link.via ≡ ByQueue) wiring.now.links }
 {
     a_new_mesh_stands::<V>();
     each_step_keeps_a_mesh_standing::<V>();
@@ -103,7 +98,6 @@ fn walk<V: Device>(
 
 fn walk_pair(alloc: Global, wiring: &Wiring, steps: &[Step]) -> Result<Walked, Fail>
     requires kinds { wiring.now.kinds ≡ (Ethernet ∷ []) ∷ ((Ethernet ∷ []) ∷ []) }
-    requires by_queues { All (λ (link : LinkOf). link.via ≡ ByQueue) wiring.now.links }
 {
     let a = beacon(alloc, 2)?;
     let b = beacon(alloc, 1)?;
@@ -225,7 +219,6 @@ fn run<V: Device>(
 ) -> Result<(bool, Outcome), NoMemory>
     requires matches { map V.behaviour.ports devices.items ≡ wiring.now.kinds }
     requires at_start { All (λ device. V.settled device 0) devices.items }
-    requires by_queues { All (λ (link : LinkOf). link.via ≡ ByQueue) wiring.now.links }
 {
     a_new_mesh_stands::<V>();
     let mut mesh = Mesh::new(alloc, devices, wiring)?;
@@ -236,7 +229,6 @@ fn run<V: Device>(
 
 fn run_pair(alloc: Global, wiring: &Wiring) -> Result<(bool, Outcome), Fail>
     requires kinds { wiring.now.kinds ≡ (Ethernet ∷ []) ∷ ((Ethernet ∷ []) ∷ []) }
-    requires by_queues { All (λ (link : LinkOf). link.via ≡ ByQueue) wiring.now.links }
 {
     let a = beacon(alloc, 2)?;
     let b = beacon(alloc, 1)?;
@@ -247,8 +239,8 @@ fn run_pair(alloc: Global, wiring: &Wiring) -> Result<(bool, Outcome), Fail>
 }
 
 /// Whether a run to the end logs and counts what the global simulator does.
-fn ends_as_simulated(alloc: Global, latency: u64, slots: u32) -> Result<bool, Fail> {
-    let wiring = pair_by(alloc, 2600, latency, slots)?;
+fn ends_as_simulated(alloc: Global, latency: u64, slots: u32, via: Via) -> Result<bool, Fail> {
+    let wiring = pair_by(alloc, 2600, latency, slots, via)?;
     let whole = simulate_pair(alloc, &wiring)?;
     let (mut same, ran) = run_pair(alloc, &wiring)?;
     for component in [0, 1] {
@@ -261,11 +253,13 @@ fn ends_as_simulated(alloc: Global, latency: u64, slots: u32) -> Result<bool, Fa
 
 #[test]
 fn a_run_to_the_end_is_the_global_run(rt: HostRuntime) -> Result<(), Fail> {
-    assert!(rt; ends_as_simulated(rt.alloc(), 500, 2)?);
-    assert!(rt; ends_as_simulated(rt.alloc(), 500, 1)?, "one place");
-    assert!(rt;
-        ends_as_simulated(rt.alloc(), 1, 64)?,
-        "shortest latency and interval"
-    );
+    for via in [Via::Queue, Via::Proxy] {
+        assert!(rt; ends_as_simulated(rt.alloc(), 500, 2, via)?);
+        assert!(rt; ends_as_simulated(rt.alloc(), 500, 1, via)?, "one place");
+        assert!(rt;
+            ends_as_simulated(rt.alloc(), 1, 64, via)?,
+            "shortest latency and interval"
+        );
+    }
     Ok(())
 }

@@ -17,4 +17,4 @@ event-requires g c =
 pub returns : goal.returns
 returns g c =
     let there = slice_get_read c.self.inside.runners.items _ c.args.component c.index_mut.result.now refl (let within = c.if-component-len.false in let len = c.len.ensures in omega arith) c.index_mut.ensures.value in
-    IfOk-weaker c.event.result _ _ (λ done processed. subst (λ (mesh : State _). Steps g.V.Device.behaviour (Event c.args.component) mesh (record { runners = slice_set c.self.inside.runners.items c.args.component c.event.new.self; ways = c.self.inside.ways.items; queues = c.self.inside.queues.items }) done) c.self.view_is (event_steps g.V.Device.behaviour (record { runners = c.self.inside.runners.items; ways = c.self.inside.ways.items; queues = c.self.inside.queues.items }) c.args.component c.index_mut.result.now c.event.new.self done there processed)) c.event.ensures
+    IfOk-weaker c.event.result _ _ (λ done processed. subst (λ (mesh : State _). Steps g.V.Device.behaviour (Event c.args.component) mesh (record { runners = slice_set c.self.inside.runners.items c.args.component c.event.new.self; ways = c.self.inside.ways.items; carriers = c.self.inside.carriers.items }) done) c.self.view_is (event_steps g.V.Device.behaviour (record { runners = c.self.inside.runners.items; ways = c.self.inside.ways.items; carriers = c.self.inside.carriers.items }) c.args.component c.index_mut.result.now c.event.new.self done there processed)) c.event.ensures

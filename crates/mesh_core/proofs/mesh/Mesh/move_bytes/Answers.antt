@@ -1,0 +1,13 @@
+use Rattle.std.proofs.Common.{arith}
+use Rattle.std.proofs.lemmas.Result.{IfOk-weaker}
+use Rattle.mesh_core.proofs.Between.{within, carrying, has_moved}
+use Rattle.mesh_core.proofs.mesh.Mesh.move_bytes.Goals as goal
+
+pub index_mut-requires : goal.index_mut-requires
+index_mut-requires g c = omega (arith, within g.V.Device.behaviour g.V.Device.settled c.self.inside.runners.items c.self.inside.ways.items c.self.inside.carriers.items c.args.self.now c.self.view_is c.requires c.args.channel (let past = c.if-channel-len.false in let len = c.len.ensures in omega arith))
+
+pub move_bytes-requires : goal.move_bytes-requires
+move_bytes-requires g c = carrying g.V.Device.behaviour g.V.Device.settled c.self.inside.runners.items c.self.inside.ways.items c.self.inside.carriers.items c.args.self.now c.self.view_is c.requires c.args.channel (let past = c.if-channel-len.false in let len = c.len.ensures in omega arith) c.index_mut.result.now c.index_mut.ensures.value
+
+pub returns : goal.returns
+returns g c = IfOk-weaker c.move_bytes.result _ _ (λ moved made. has_moved g.V.Device.behaviour g.V.Device.settled c.self.inside.runners.items c.self.inside.ways.items c.self.inside.carriers.items c.args.self.now c.self.view_is c.requires c.args.channel (let past = c.if-channel-len.false in let len = c.len.ensures in omega arith) c.index_mut.result.now c.index_mut.ensures.value c.move_bytes.new.self c.args.n moved made) c.move_bytes.ensures.ok
