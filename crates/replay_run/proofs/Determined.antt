@@ -7,7 +7,10 @@ use Rattle.sb_message.specs.declared.message.Msg.{Msg}
 use Rattle.cs_base.specs.Lines.{lines_of}
 use Rattle.device_api.specs.Behaviour.{Behaviour}
 use Rattle.device_api.specs.Position.{Key, by_part, is_at_most}
-use Rattle.port_queue.specs.Plain.{Plain}
+use Rattle.mesh_channel.specs.declared.carrier.Carrier.{Carrier}
+use Rattle.mesh_channel.specs.Carrier.{Pushes, Pops, Takes, Puts}
+use Rattle.mesh_channel.specs.Laws.{IsOnePop}
+use Rattle.mesh_channel.proofs.Determined.{leads_once}
 use Rattle.run_steps.specs.declared.step.Step.{Step}
 use Rattle.run_steps.specs.declared.step.Step.TheVariants.{Event, Send, Poll, Take as TakeStep, Move, Put}
 use Rattle.run_steps.proofs.Spelling.{one_step_a_line}
@@ -23,7 +26,8 @@ use Rattle.mesh_core.specs.declared.way.Way.{Way}
 use Rattle.mesh_core.specs.State.{State}
 use Rattle.mesh_core.specs.Laws.{StepsKeepIt}
 use Rattle.mesh_core.specs.MeshOf.{IsMeshOf}
-use Rattle.mesh_core.specs.Steps.{Leads, ProcessesAt, SendsOn, ReceivesOn, with_line, sent_by, received_by}
+use Rattle.mesh_core.specs.Steps.{Leads, ProcessesAt, SendsOn, ReceivesOn, GoesOn, MovesOn, with_line, with_carrier, sent_by, received_by}
+use Rattle.mesh_core.proofs.Enabled.{leads_enabled}
 use Rattle.replay_run.specs.Replayed.{IsMade, IsDenied, IsAtFault, LeadOn, IsReplayed}
 use Rattle.replay_run.specs.Laws.{HasOneOutcome}
 
@@ -85,29 +89,34 @@ module _ {V : Type 0} (b : Behaviour V) where
 
   -- ---- a step leads to one state
 
-  abbrev sent_on : State V → ℕ → Way → Plain → Runner V → Msg → State V
-  sent_on old k way queue runner m = with_line old way.from.component (sent_by runner way.from.port) k (record queue { held = queue.held ++ m ∷ [] })
+  abbrev sent_on : State V → ℕ → Way → Runner V → Carrier → State V
+  sent_on old k way runner after = with_line old way.from.component (sent_by runner way.from.port) k after
 
-  abbrev received_on : State V → ℕ → Way → Plain → Runner V → Msg → List Msg → State V
-  received_on old k way queue runner m rest = with_line old way.to.component (received_by runner way.to.port m) k (record queue { held = rest })
+  abbrev received_on : State V → ℕ → Way → Runner V → Msg → Carrier → State V
+  received_on old k way runner m after = with_line old way.to.component (received_by runner way.to.port m) k after
 
   one_sent : (old new other : State V) (k : ℕ) → SendsOn old new k → SendsOn old other k → new ≡ other
   one_sent old new other k p q =
       let way : p.way ≡ q.way = same_Some p.way q.way (sym p.line.leads ∙ q.line.leads) in
-      let queue : p.queue ≡ q.queue = same_Some p.queue q.queue (sym p.line.between ∙ q.line.between) in
+      let carrier : p.carrier ≡ q.carrier = same_Some p.carrier q.carrier (sym p.line.between ∙ q.line.between) in
       let runner : p.runner ≡ q.runner = same_Some p.runner q.runner (sym p.sender ∙ ap (λ (w : Way). slice_get old.runners w.from.component) way ∙ q.sender) in
       let m : p.m ≡ q.m = one_first p.m q.m p.more q.more (sym p.waited ∙ ap₂ (λ (r : Runner V) (w : Way). outbox_in r.outgoing w.from.port) runner way ∙ q.waited) in
-      p.is ∙ ap (λ w. sent_on old k w p.queue p.runner p.m) way ∙ ap (λ x. sent_on old k q.way x p.runner p.m) queue ∙ ap₂ (sent_on old k q.way q.queue) runner m ∙ sym q.is
+      let pushed : Pushes q.carrier q.m p.after = subst (λ c. Pushes c q.m p.after) carrier (subst (λ x. Pushes p.carrier x p.after) m p.pushed) in
+      let after : p.after ≡ q.after = (leads_once q.carrier).push p.after q.after q.m pushed q.pushed in
+      p.is ∙ ap (λ w. sent_on old k w p.runner p.after) way ∙ ap₂ (sent_on old k q.way) runner after ∙ sym q.is
 
   one_received : (old new other : State V) (k : ℕ) → ReceivesOn old new k → ReceivesOn old other k → new ≡ other
   one_received old new other k p q =
       let way : p.way ≡ q.way = same_Some p.way q.way (sym p.line.leads ∙ q.line.leads) in
-      let queue : p.queue ≡ q.queue = same_Some p.queue q.queue (sym p.line.between ∙ q.line.between) in
+      let carrier : p.carrier ≡ q.carrier = same_Some p.carrier q.carrier (sym p.line.between ∙ q.line.between) in
       let runner : p.runner ≡ q.runner = same_Some p.runner q.runner (sym p.receiver ∙ ap (λ (w : Way). slice_get old.runners w.to.component) way ∙ q.receiver) in
-      let held = sym p.first ∙ ap (λ (x : Plain). x.held) queue ∙ q.first in
-      let m : p.m ≡ q.m = one_first p.m q.m p.rest q.rest held in
-      let rest : p.rest ≡ q.rest = one_rest p.m q.m p.rest q.rest held in
-      p.is ∙ ap (λ w. received_on old k w p.queue p.runner p.m p.rest) way ∙ ap (λ x. received_on old k q.way x p.runner p.m p.rest) queue ∙ ap (λ r. received_on old k q.way q.queue r p.m p.rest) runner ∙ ap₂ (received_on old k q.way q.queue q.runner) m rest ∙ sym q.is
+      let one : IsOnePop p.m q.m p.after q.after = (leads_once q.carrier).pop p.after q.after p.m q.m (subst (λ c. Pops c p.m p.after) carrier p.popped) q.popped in
+      p.is ∙ ap (λ w. received_on old k w p.runner p.m p.after) way ∙ ap (λ r. received_on old k q.way r p.m p.after) runner ∙ ap₂ (received_on old k q.way q.runner) one.message one.after ∙ sym q.is
+
+  one_gone : (step : Carrier → Carrier → Type 0) → ((x y z : Carrier) → step x y → step x z → y ≡ z) → (old new other : State V) (k : ℕ) → GoesOn step old new k → GoesOn step old other k → new ≡ other
+  one_gone step once old new other k p q =
+      let carrier : p.carrier ≡ q.carrier = same_Some p.carrier q.carrier (sym p.line.between ∙ q.line.between) in
+      p.is ∙ ap (with_carrier old k) (once q.carrier p.after q.after (subst (λ c. step c p.after) carrier p.made) q.made) ∙ sym q.is
 
   one_processed : (old new other : State V) (c : ℕ) → ProcessesAt b old new c → ProcessesAt b old other c → new ≡ other
   one_processed old new other c p q =
@@ -119,9 +128,9 @@ module _ {V : Type 0} (b : Behaviour V) where
   one_lead (Event c) old new other first second = one_processed old new other c first second
   one_lead (Send k) old new other first second = one_sent old new other k first second
   one_lead (Poll k) old new other first second = one_received old new other k first second
-  one_lead (TakeStep k) old new other first second = absurd first
-  one_lead (Move k n) old new other first second = absurd first
-  one_lead (Put k) old new other first second = absurd first
+  one_lead (TakeStep k) old new other first second = one_gone Takes (λ x. (leads_once x).take) old new other k first second
+  one_lead (Move k n) old new other first second = one_gone (MovesOn n) (λ x y z p q. (leads_once x).move y z n p.carrying p.moved q.moved) old new other k first second
+  one_lead (Put k) old new other first second = one_gone Puts (λ x. (leads_once x).put) old new other k first second
 
   -- ---- a line and a schedule have one outcome
 
@@ -132,7 +141,7 @@ module _ {V : Type 0} (b : Behaviour V) where
 
   not_denied : (line : List ℕ) (old new : State V) → IsMade b line old new → IsAtFault b line old → ⊥
   not_denied line old new made fault =
-      subst (λ s. IsDenied b s old) (one_step_a_line line fault.step (Some made.step) fault.spells made.spells) fault.denied new made.leads
+      subst (λ s. IsDenied b s old) (one_step_a_line line fault.step (Some made.step) fault.spells made.spells) fault.denied (leads_enabled b made.step old new made.leads)
 
   one_end : (lines : List (List ℕ)) (old new other : State V) → LeadOn b lines old new → LeadOn b lines old other → new ≡ other
   one_end [] old new other first second = first ∙ sym second

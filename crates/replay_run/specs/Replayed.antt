@@ -6,7 +6,7 @@ use Rattle.device_api.specs.Behaviour.{Behaviour}
 use Rattle.run_steps.specs.Steps.{IsStepOf}
 use Rattle.run_steps.specs.declared.step.Step.{Step}
 use Rattle.mesh_core.specs.State.{State}
-use Rattle.mesh_core.specs.Steps.{Leads}
+use Rattle.mesh_core.specs.Steps.{Leads, Enables}
 use Rattle.mesh_core.specs.Start.{first_mesh}
 use Rattle.replay_run.specs.declared.schedule.ReplayBad.{ReplayBad}
 use Rattle.replay_run.specs.declared.schedule.ReplayBad.TheVariants.{Line, NoMemory}
@@ -17,10 +17,10 @@ pub record IsMade {V : Type 0} (b : Behaviour V) (line : List ℕ) (old new : St
   pub spells : IsStepOf line (Some step)
   pub leads : Leads b step old new
 
--- a line isn't enabled: it spells no step, or one that leads nowhere
+-- a line isn't enabled: it spells no step, or one that isn't enabled
 abbrev pub IsDenied : {V : Type 0} → Behaviour V → Option Step → State V → Type 0
 IsDenied b None mesh = Unit {0}
-IsDenied {V} b (Some step) mesh = (other : State V) → Leads b step mesh other → ⊥
+IsDenied {V} b (Some step) mesh = Enables b step mesh → ⊥
 
 pub record IsAtFault {V : Type 0} (b : Behaviour V) (line : List ℕ) (mesh : State V) : Type 0 where
   pub step : Option Step

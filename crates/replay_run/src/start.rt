@@ -1,6 +1,4 @@
 ghost use Rattle.std.specs.Prelude.{◌≡◌, map, All, IfOk, IfErr};
-ghost use Rattle.cs_base.specs.declared.link.Link.{Link};
-ghost use Rattle.cs_base.specs.declared.port_kind.Via.TheVariants.{Queue};
 ghost use Rattle.mesh_core.specs.MeshOf.{IsMeshOf};
 ghost use Rattle.replay_run.specs.Replayed.{IsReplayedFrom, IsRefusedFrom};
 
@@ -12,7 +10,7 @@ use mesh_core::Mesh;
 use mesh_core::laws::a_new_mesh_stands;
 use std::alloc::Global;
 
-/// The mesh of devices at their start, joined by a wiring of which no link goes by proxy, after the steps of a schedule.
+/// The mesh of devices at their start, joined by a wiring, after the steps of a schedule.
 ///
 /// # Errors
 ///
@@ -25,7 +23,6 @@ pub fn replay_from_start<V: Device>(
 ) -> Result<Mesh<V>, ReplayBad>
     requires matches { map V.behaviour.ports devices.items ≡ wiring.now.kinds }
     requires at_start { All (λ device. V.settled device 0) devices.items }
-    requires by_queues { All (λ (link : Link). link.via ≡ Queue) wiring.now.links }
     ensures replayed { IfOk result
         (IsReplayedFrom V.behaviour devices.items wiring.now schedule.now) }
     // So what holds of each mesh of its system, however it is stepped, holds of it.

@@ -1,8 +1,6 @@
 //! Two beacons that are joined by a link, and schedules for their mesh.
-ghost use Rattle.std.specs.Prelude.{◌≡◌, ◌≤◌, ◌^◌, ◌∷◌, [], All, IfOk};
-ghost use Rattle.cs_base.specs.declared.link.Link.{Link as LinkOf};
+ghost use Rattle.std.specs.Prelude.{◌≡◌, ◌≤◌, ◌^◌, ◌∷◌, [], IfOk};
 ghost use Rattle.cs_base.specs.declared.port_kind.PortKind.TheVariants.{Eth as Ethernet};
-ghost use Rattle.cs_base.specs.declared.port_kind.Via.TheVariants.{Queue as ByQueue};
 ghost use Rattle.device_api.specs.Beacon.{IsSettledBeacon};
 
 use crate::{ReplayBad, replay_from_start, report};
@@ -22,8 +20,6 @@ fn one_port(alloc: Global) -> Result<Items<PortKind>, Fail>
 fn pair(alloc: Global) -> Result<Wiring, Fail>
     ensures kinds { IfOk result
         (λ wiring. wiring.kinds ≡ (Ethernet ∷ []) ∷ ((Ethernet ∷ []) ∷ [])) }
-    ensures by_queues { IfOk result
-        (λ wiring. All (λ (link : LinkOf). link.via ≡ ByQueue) wiring.links) }
 {
     let mut kinds = Items::new(alloc);
     kinds.push(one_port(alloc)?)?;

@@ -1,6 +1,4 @@
 ghost use Rattle.std.specs.Prelude.{◌≡◌, map, All, IfOk};
-ghost use Rattle.cs_base.specs.declared.link.Link.{Link};
-ghost use Rattle.cs_base.specs.declared.port_kind.Via.TheVariants.{Queue};
 ghost use Rattle.global_model.specs.Runs.{HasLogsOf, HasCountsOf};
 ghost use Rattle.mesh_core.specs.MeshOf.{IsMeshOf};
 ghost use Rattle.sync_laws.specs.Whole.{HaveEnded};
@@ -14,7 +12,7 @@ use mesh_core::laws::{
 };
 use std::alloc::Global;
 
-/// A mesh of devices that were at their start, joined by a wiring of which no link goes by proxy, after as many steps as
+/// A mesh of devices that were at their start, joined by a wiring, after as many steps as
 /// it can make.
 fn ended_mesh<V: Device>(
     alloc: Global,
@@ -23,7 +21,6 @@ fn ended_mesh<V: Device>(
 ) -> Result<Mesh<V>, NoMemory>
     requires matches { map V.behaviour.ports devices.items ≡ wiring.now.kinds }
     requires at_start { All (λ device. V.settled device 0) devices.items }
-    requires by_queues { All (λ (link : Link). link.via ≡ Queue) wiring.now.links }
     ensures of_its_system { IfOk result
         (IsMeshOf V.behaviour V.settled devices.items wiring.now.links wiring.now.end) }
     ensures ended { IfOk result (λ mesh. HaveEnded V.behaviour mesh.runners) }
@@ -35,7 +32,7 @@ fn ended_mesh<V: Device>(
     Ok(mesh)
 }
 
-/// Runs devices from their start, each on a clock of its own, joined by a wiring of which no link goes by proxy, until
+/// Runs devices from their start, each on a clock of its own, joined by a wiring, until
 /// all have ended. It returns whatever the system, and what it leaves is what the global run leaves: what each component
 /// logged, and how many messages went on each channel.
 pub fn serial<V: Device>(
@@ -45,7 +42,6 @@ pub fn serial<V: Device>(
 ) -> Result<Outcome, NoMemory>
     requires matches { map V.behaviour.ports devices.items ≡ wiring.now.kinds }
     requires at_start { All (λ device. V.settled device 0) devices.items }
-    requires by_queues { All (λ (link : Link). link.via ≡ Queue) wiring.now.links }
     ensures logs { IfOk result (HasLogsOf V.behaviour devices.items wiring.now) }
     ensures counts { IfOk result (HasCountsOf V.behaviour devices.items wiring.now) }
 {
