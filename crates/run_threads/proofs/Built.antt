@@ -5,11 +5,7 @@ use Rattle.cs_base.specs.declared.port_kind.PortKind.{PortKind}
 use Rattle.port_queue.specs.Plain.{Plain}
 use Rattle.slot_queue.specs.Ends.{Named, Sender, Receiver}
 use Rattle.run_threads.specs.Queues.{as_empty, its_sender, its_receiver, Added}
-
--- both sides of each queue, unused
-pub record AreSides (queues : List Named) (producers : List Sender) (consumers : List Receiver) : Type 0 where
-  pub producers_are : producers ≡ map its_sender queues
-  pub consumers_are : consumers ≡ map its_receiver queues
+use Rattle.run_threads.specs.Proxied.{AreSides}
 
 module _ (slots : ℕ) (kind : PortKind) (queues : List Named) (producers : List Sender) (consumers : List Receiver) (queues' : List Named) (producers' : List Sender) (consumers' : List Receiver) (added : Added slots kind queues producers consumers queues' producers' consumers') where
   pub sides_more : AreSides queues producers consumers → AreSides queues' producers' consumers'

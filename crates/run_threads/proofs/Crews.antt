@@ -1,6 +1,6 @@
 -- Rounds keep a crew standing.
 use Rattle.std.proofs.Common.{◌≡◌, ℕ, ◌+◌, ◌*◌, ◌/◌, ◌%◌, ◌<◌, List, length, get_or, Option, Some, None, refl, sym, ap, ◌∙◌, subst, arith}
-use Rattle.std.specs.Prelude.{slice_get, IfOk}
+use Rattle.std.specs.Prelude.{slice_get, IfOk, IfErr}
 use Rattle.std.specs.declared.result.Result.{Result}
 use Rattle.std.specs.declared.result.Result.TheVariants.{Ok, Err}
 use Rattle.std.proofs.lemmas.Option.{none-some, same_Some, slice_get-get_or, slice_get_within}
@@ -30,32 +30,32 @@ use Rattle.run_threads.specs.declared.part.Part.{Part}
 use Rattle.run_threads.specs.Parts.{tx_kind, tx_stands, tx_pushes, tx_refuses, rx_kind, rx_stands, rx_pops, rx_empties, PartFits, PartDid, PartFailed}
 use Rattle.run_threads.specs.CrewOf.{members_of, IsPartOf, HasPart, IsCrewOf}
 
-tx_name : (before after : TxEnd) → IsTried tx_pushes tx_refuses before after → after.seat.queue ≡ before.seat.queue
+pub tx_name : (before after : TxEnd) → IsTried tx_pushes tx_refuses before after → after.seat.queue ≡ before.seat.queue
 tx_name before after (it_went m pushed) = ap (λ (s : Sender). s.queue) pushed
 tx_name before after (it_stayed refused) = ap (λ (s : Sender). s.queue) refused.after
 tx_name before after (untouched same) = ap (λ (end : TxEnd). end.seat.queue) same
 
-rx_name : (before after : RxEnd) → IsTried rx_pops rx_empties before after → after.seat.queue ≡ before.seat.queue
+pub rx_name : (before after : RxEnd) → IsTried rx_pops rx_empties before after → after.seat.queue ≡ before.seat.queue
 rx_name before after (it_went m popped) = ap (λ (r : Receiver). r.queue) popped.after
 rx_name before after (it_stayed emptied) = ap (λ (r : Receiver). r.queue) emptied
 rx_name before after (untouched same) = ap (λ (end : RxEnd). end.seat.queue) same
 
 -- an end at a port is of the queue that the end there was of
-record WasOf {E : Type 0} (name : E → TableId) (ends : List E) (port : ℕ) (queue : TableId) : Type 0 where
-  before : E
-  there : slice_get ends port ≡ Some before
-  same : queue ≡ name before
+pub record WasOf {E : Type 0} (name : E → TableId) (ends : List E) (port : ℕ) (queue : TableId) : Type 0 where
+  pub before : E
+  pub there : slice_get ends port ≡ Some before
+  pub same : queue ≡ name before
 
-was_of : {E : Type 0} (name : E → TableId) (moves : E → Msg → E → Type 0) (stays : E → E → Type 0) → ((before after : E) → IsTried moves stays before after → name after ≡ name before) → (ends ends' : List E) → AreTried moves stays ends ends' → (port : ℕ) (one : E) → slice_get ends' port ≡ Some one → WasOf name ends port (name one)
+pub was_of : {E : Type 0} (name : E → TableId) (moves : E → Msg → E → Type 0) (stays : E → E → Type 0) → ((before after : E) → IsTried moves stays before after → name after ≡ name before) → (ends ends' : List E) → AreTried moves stays ends ends' → (port : ℕ) (one : E) → slice_get ends' port ≡ Some one → WasOf name ends port (name one)
 was_of name moves stays kept ends ends' tried port one there =
     let at : EndAt ends ends' port (IsTried moves stays) = tried.each port (let within : port < length ends' = slice_get_within ends' port one there in let many : length ends' ≡ length ends = tried.as_many in omega arith) in
     record { before = at.before; there = at.there; same = ap name (same_Some one at.after (sym there ∙ at.left)) ∙ kept at.before at.after at.is }
 
-element : {X : Type 0} (xs : List X) (i : ℕ) (x d : X) → slice_get xs i ≡ Some x → get_or xs i d ≡ x
+pub element : {X : Type 0} (xs : List X) (i : ℕ) (x d : X) → slice_get xs i ≡ Some x → get_or xs i d ≡ x
 element xs i x d there = same_Some (get_or xs i d) x (sym (slice_get-get_or xs i d (slice_get_within xs i x there)) ∙ there)
 
 module _ {V : Type 0} (b : Behaviour V) (settled : V → ℕ → Type 0) (lawful : IsLawful b settled) (links : List Link) (end : ℕ) (names : List TableId) where
-  did_keeps : (c : ℕ) (start : V) (old new : Part V) → IsPartOf b settled links end names c start old → PartDid b settled old new → IsPartOf b settled links end names c start new
+  pub did_keeps : (c : ℕ) (start : V) (old new : Part V) → IsPartOf b settled links end names c start old → PartDid b settled old new → IsPartOf b settled links end names c start new
   did_keeps c start old new is did = record {
     component = did.component ∙ is.component;
     stands = turn_stands b settled lawful tx_kind tx_stands rx_kind rx_stands rx_pops rx_empties (λ x y m received popped of. pop_adds x.seat y.seat m received popped of) (λ x y m received popped of. pop_streams x.seat y.seat m received popped of) (λ x y m popped. pop_kind x.seat y.seat m popped) (λ x y received emptied of. empty_keeps x.seat y.seat received emptied of) (λ x y emptied. empty_kind x.seat y.seat emptied) tx_pushes tx_refuses (λ x y m sent pushed of stream. push_adds x.seat y.seat m sent pushed of) (λ x y m pushed. push_kind x.seat y.seat m pushed) (λ x y sent refused of. refusal_keeps x.seat y.seat sent refused of) (λ x y refused. refusal_kind x.seat y.seat refused) start old.driver.runner new.driver.runner old.driver.txs.items new.driver.txs.items old.driver.rxs.items new.driver.rxs.items did.turn is.stands did.turned;
@@ -162,3 +162,8 @@ module _ {V : Type 0} (b : Behaviour V) (settled : V → ℕ → Type 0) (lawful
 pub if_ok : {A E : Type 0} (result : Result A E) (P Q : Type 0) → (P → Q) → IfOk result (λ _. P) → IfOk result (λ _. Q)
 if_ok (Ok x) P Q follows holds = follows holds
 if_ok (Err e) P Q follows holds = holds
+
+-- and where it fails
+pub if_err : {A E : Type 0} (result : Result A E) (P Q : E → Type 0) → ((e : E) → P e → Q e) → IfErr result P → IfErr result Q
+if_err (Ok x) P Q follows holds = holds
+if_err (Err e) P Q follows holds = follows e holds

@@ -8,7 +8,7 @@ use Rattle.std.proofs.lemmas.List.{length-set}
 use Rattle.std.proofs.lemmas.Option.{same_Some, slice_get-get_or, slice_get_within}
 use Rattle.run_laws.proofs.Lists.{there_below, slice_get-set_same, slice_get-set_other}
 use Rattle.worker_rounds.specs.Rounds.{Work}
-use Rattle.run_threads.specs.Dealing.{AreDealt, DealtMore}
+use Rattle.run_threads.specs.Dealing.{AreDealt, AreNumbered, DealtMore}
 
 -- PLACES
 
@@ -22,10 +22,10 @@ at_most k q never = at (leb k q) refl
 not_less : (w k v q n : ℕ) → w < n → w + k * n ≡ v + q * n → k < q → ⊥
 not_less w k v q n within same less = (let below : k * n + w < n * q = mul-add-lt k n w q less within in let turned : n * q ≡ q * n = mul_comm n q in omega arith)
 
-same_row : (w k v q n : ℕ) → w < n → v < n → w + k * n ≡ v + q * n → k ≡ q
+pub same_row : (w k v q n : ℕ) → w < n → v < n → w + k * n ≡ v + q * n → k ≡ q
 same_row w k v q n w_lt v_lt same = (let most : k ≤ q = at_most k q (λ lt. not_less v q w k n v_lt (sym same) lt) in let least : q ≤ k = at_most q k (λ lt. not_less w k v q n w_lt same lt) in omega arith)
 
-same_column : (w k v q n : ℕ) → w < n → v < n → w + k * n ≡ v + q * n → w ≡ v
+pub same_column : (w k v q n : ℕ) → w < n → v < n → w + k * n ≡ v + q * n → w ≡ v
 same_column w k v q n w_lt v_lt same = (let rows : k * n ≡ q * n = ap (λ r. r * n) (same_row w k v q n w_lt v_lt same) in omega arith)
 
 pub get_last : {X : Type 0} (xs : List X) (x : X) → slice_get (xs ++ x ∷ []) (length xs) ≡ Some x
@@ -107,3 +107,17 @@ module _ {M : Type 0} (workers : List (Work M)) (all : List M) (dealt : AreDealt
 -- whichever were dealt before
 pub deal_step : {M : Type 0} (workers : List (Work M)) (number : ℕ) (x : M) (d worker' : Work M) → 0 < length workers → worker'.members ≡ (get_or workers (number % length workers) d).members ++ x ∷ [] → worker'.fault ≡ (get_or workers (number % length workers) d).fault → DealtMore number x workers (slice_set workers (number % length workers) worker')
 deal_step workers number x d worker' some members_are fault_is = λ all many dealt. (let here : slice_get workers (length all % length workers) ≡ Some (get_or workers (number % length workers) d) = ap (λ k. slice_get workers (k % length workers)) many ∙ slice_get-get_or workers (number % length workers) d (mod_below number (length workers) some) in subst (λ k. AreDealt (slice_set workers (k % length workers) worker') (all ++ x ∷ [])) many (dealt_more workers all dealt x (get_or workers (number % length workers) d) here worker' members_are fault_is))
+
+-- a worker at its place keeps its number
+numbered_at : {M : Type 0} (workers : List (Work M)) (place : ℕ) (worker worker' : Work M) → slice_get workers place ≡ Some worker → worker'.number ≡ worker.number → AreNumbered workers → (w : ℕ) (one : Work M) → slice_get (slice_set workers place worker') w ≡ Some one → one.number ≡ w
+numbered_at {M} workers place worker worker' here same numbered w one at = by (eqb w place) refl
+  where
+    by : (o : Bool) → eqb w place ≡ o → one.number ≡ w
+    by true e =
+        let is : w ≡ place = eqb-true w place e in
+        let found : one ≡ worker' = same_Some one worker' (sym at ∙ ap (slice_get (slice_set workers place worker')) is ∙ slice_get-set_same workers place worker worker' here) in
+        ap (λ (o : Work M). o.number) found ∙ same ∙ numbered.each place worker here ∙ sym is
+    by false e = (let differ = eqb-false w place e in numbered.each w one (sym (slice_get-set_other workers place w worker' (λ s. differ (sym s))) ∙ at))
+
+pub numbered_step : {M : Type 0} (workers : List (Work M)) (number : ℕ) (d worker' : Work M) → 0 < length workers → worker'.number ≡ (get_or workers (number % length workers) d).number → AreNumbered workers → AreNumbered (slice_set workers (number % length workers) worker')
+numbered_step workers number d worker' some same numbered = record { each = numbered_at workers (number % length workers) (get_or workers (number % length workers) d) worker' (slice_get-get_or workers (number % length workers) d (mod_below number (length workers) some)) same numbered }

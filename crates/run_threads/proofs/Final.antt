@@ -35,7 +35,10 @@ use Rattle.mesh_core.specs.MeshOf.{IsMeshOf}
 use Rattle.mesh_core.proofs.Begun.{lists_are}
 use Rattle.mesh_core.proofs.Outcomes.{leaves_logs, leaves_counts}
 use Rattle.mesh_core.proofs.Runners.{plan_is, plan_back}
+use Rattle.mesh_core.proofs.Sent.{sent_streams}
 use Rattle.mesh_core.proofs.Started.{IsMadeOf, made_of, kind_there}
+use Rattle.mesh_channel.specs.declared.carrier.Carrier.{Carrier}
+use Rattle.mesh_channel.specs.declared.carrier.Carrier.TheVariants.{Direct}
 use Rattle.worker_rounds.specs.Rounds.{Work}
 use Rattle.worker_rounds.specs.Passes.{HaveEnded as PassesEnded}
 use Rattle.worker_rounds.specs.Crew.{AllEnded}
@@ -221,8 +224,11 @@ module _ {V : Type 0} (b : Behaviour V) (settled : V → ℕ → Type 0) (lawful
       abbrev queue_for : Channel → Plain
       queue_for ch = record { kind = kind_or (kind_at (map b.ports starts) ch.to); slots = 1; held = held ch.from }
 
+      abbrev carrier_for : Channel → Carrier
+      carrier_for ch = Direct (queue_for ch)
+
       abbrev mesh : State V
-      mesh = record { runners = left.runners; ways = map way_of (channels links); queues = map queue_for (channels links) }
+      mesh = record { runners = left.runners; ways = map way_of (channels links); carriers = map carrier_for (channels links) }
 
       of_mesh : IsMeshOf b settled starts links end mesh
       of_mesh = record {
@@ -233,13 +239,15 @@ module _ {V : Type 0} (b : Behaviour V) (settled : V → ℕ → Type 0) (lawful
         held = held;
         whole = whole;
         ways = refl;
-        queues = λ k ch is. record {
-          queue = queue_for ch;
-          there = get_mapped queue_for (channels links) k ch is;
-          some_slot = omega arith;
-          holds = refl;
-          kind = kind_there (kind_at (map b.ports starts) ch.to) (channel_joined net of.wired k ch is).at_receiver;
-        };
+        carriers = λ k ch is. (let kind : kind_at (map b.ports starts) ch.to ≡ Some (queue_for ch).kind = kind_there (kind_at (map b.ports starts) ch.to) (channel_joined net of.wired k ch is).at_receiver in record {
+          carrier = carrier_for ch;
+          there = get_mapped carrier_for (channels links) k ch is;
+          carries = record {
+            place = omega arith;
+            stands = record { held_between = sym (between k ch is); is_sent = sent_streams net settled end positions received sent held left.runners whole of.wired k ch is (queue_for ch).kind kind };
+          };
+          kind = kind;
+        });
       }
 
       module _ (ended : AllEnded (λ (part : Part V). HasEnded b part.driver.runner) workers) where

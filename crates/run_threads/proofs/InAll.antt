@@ -10,20 +10,20 @@ use Rattle.cs_base.specs.Plan.{End, IsPlan}
 use Rattle.device_api.specs.Behaviour.{Behaviour, IsLawful}
 use Rattle.device_api.specs.Channels.{Channel, channels}
 use Rattle.mesh_core.specs.declared.way.Seat.{Seat}
-use Rattle.mesh_core.specs.Start.{first_runner, first_runners, queues_of}
+use Rattle.mesh_core.specs.Start.{first_runners, queues_of}
 use Rattle.mesh_core.specs.State.{seat_of}
 use Rattle.slot_queue.specs.Ends.{Named}
 use Rattle.sync_rule.specs.declared.runner.Runner.{Runner}
 use Rattle.worker_rounds.specs.Rounds.{Work}
 use Rattle.run_threads.specs.declared.part.Part.{Part}
-use Rattle.run_threads.specs.Building.{IsPlaced, HaveParts, starts_of}
+use Rattle.run_threads.specs.Building.{IsPlaced, HaveParts, IsNewCrew, starts_of}
 use Rattle.run_threads.specs.CrewOf.{IsCrewOf}
 use Rattle.run_threads.specs.Dealing.{AreDealt}
 use Rattle.run_threads.specs.Numbers.{HaveNumbers}
 use Rattle.run_threads.specs.Queues.{as_empty}
 use Rattle.run_threads.specs.Stock.{froms_of, tos_of}
 use Rattle.run_threads.proofs.InTurn.{start_there, is_first, kinds_there}
-use Rattle.run_threads.proofs.Placed.{no_parts, part_more, all_parts}
+use Rattle.run_threads.proofs.Placed.{no_parts, part_more, all_parts, all_new}
 use Rattle.run_threads.proofs.Wires.{have_froms, have_tos}
 
 as_many_channels : (links : List Link) → length (channels links) ≡ 2 * length links
@@ -62,15 +62,18 @@ module _ {V : Type 0} (b : Behaviour V) (settled : V → ℕ → Type 0) (kinds 
     queues_so : map as_empty queues ≡ queues_of (map b.ports starts) links
     queues_so = queues_are ∙ ap (λ k. queues_of k links) (sym matches)
 
-    pub none_made : (workers : List (Work (Part V))) → AreDealt workers [] → HaveParts b settled starts links end names 0 workers
+    pub none_made : (workers : List (Work (Part V))) → AreDealt workers [] → HaveParts b starts links end queues 0 workers
     none_made workers dealt = no_parts b settled lawful starts links end wired_so at_start queues queues_so workers dealt
 
-    pub one_made : (c : ℕ) (r : Runner V) → slice_get all c ≡ Some r → (ports : ℕ) → ports ≡ length (b.ports r.device) → (froms tos : List Seat) → froms ≡ froms_of links → tos ≡ tos_of links → (before after : List (Work (Part V))) → HaveParts b settled starts links end names c before → IsPlaced queues froms tos c ports r before after → HaveParts b settled starts links end names (c + 1) after
+    pub one_made : (c : ℕ) (r : Runner V) → slice_get all c ≡ Some r → (ports : ℕ) → ports ≡ length (b.ports r.device) → (froms tos : List Seat) → froms ≡ froms_of links → tos ≡ tos_of links → (before after : List (Work (Part V))) → HaveParts b starts links end queues c before → IsPlaced queues froms tos c ports r before after → HaveParts b starts links end queues (c + 1) after
     one_made c r there ports is froms tos froms_are tos_are before after so_far placed =
         let by_froms : IsPlaced queues (froms_of links) tos c ports r before after = subst (λ seats. IsPlaced queues seats tos c ports r before after) froms_are placed in
         let by_tos : IsPlaced queues (froms_of links) (tos_of links) c ports r before after = subst (λ seats. IsPlaced queues (froms_of links) seats c ports r before after) tos_are by_froms in
         let by_ports : IsPlaced queues (froms_of links) (tos_of links) c (length (b.ports r.device)) r before after = subst (λ n. IsPlaced queues (froms_of links) (tos_of links) c n r before after) is by_tos in
         part_more b settled lawful starts links end wired_so at_start queues queues_so c r.device before after (start_there b links end all new c r there) so_far (subst (λ x. IsPlaced queues (froms_of links) (tos_of links) c (length (b.ports r.device)) x before after) (is_first b links end all new c r there) by_ports)
 
-    pub all_made : (count : ℕ) (workers : List (Work (Part V))) → HaveParts b settled starts links end names count workers → count ≡ length all → IsCrewOf b settled starts links end names workers
+    pub all_made : (count : ℕ) (workers : List (Work (Part V))) → HaveParts b starts links end queues count workers → count ≡ length all → IsCrewOf b settled starts links end names workers
     all_made count workers have is = all_parts b settled lawful starts links end wired_so at_start queues queues_so count workers have (is ∙ sym (length-map all (λ r. r.device)))
+
+    pub all_unused : (count : ℕ) (workers : List (Work (Part V))) → HaveParts b starts links end queues count workers → count ≡ length all → IsNewCrew b starts links end queues workers
+    all_unused count workers have is = all_new b settled lawful starts links end wired_so at_start queues queues_so count workers have (is ∙ sym (length-map all (λ r. r.device)))

@@ -1,4 +1,5 @@
 pub mod Built
+pub mod Doubled
 pub mod Faults
 pub mod Crews
 pub mod Final
@@ -10,3 +11,14 @@ pub mod Assembled
 pub mod Placed
 pub mod InTurn
 pub mod InAll
+pub mod Begun
+pub mod Seatings
+pub mod SeatedCrew
+pub mod Staying
+pub mod Collected
+pub mod PutBack
+pub mod Parted
+pub mod Finished
+pub mod Introduced
+pub mod Causes
+mod Queued

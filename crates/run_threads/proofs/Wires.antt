@@ -1,5 +1,5 @@
 -- The channels at the ports of a component of a wiring, and that the part that is made for them is that of the component.
-use Rattle.std.proofs.Common.{◌≡◌, ℕ, ◌<◌, List, [], ◌∷◌, length, map, All, Option, Some, None, option_map, refl, sym, ap, ap₂, ◌∙◌, subst, arith}
+use Rattle.std.proofs.Common.{◌≡◌, ℕ, ◌<◌, List, [], ◌∷◌, length, map, All, Some, None, option_map, refl, sym, ap, ap₂, ◌∙◌, subst, arith}
 use Rattle.std.specs.Prelude.{slice_get, option_and_then}
 use Rattle.std.proofs.lemmas.Option.{same_Some, slice_get_within}
 use Rattle.cs_base.specs.declared.link.Link.{Link}
@@ -14,14 +14,13 @@ use Rattle.mesh_core.specs.declared.way.Seat.{Seat}
 use Rattle.mesh_core.specs.Start.{first_runner, plans_of, queues_of}
 use Rattle.mesh_core.specs.State.{seat_of}
 use Rattle.mesh_core.proofs.Runners.{IsThere, turned, back_there, kinds_kept, all_planned}
-use Rattle.mesh_core.proofs.Started.{first_is_mesh}
+use Rattle.run_threads.proofs.Queued.{HasQueue, queue_at}
 use Rattle.port_queue.specs.Plain.{Plain}
 use Rattle.run_laws.proofs.Channels.{IsOwned, ComesIn, owned, port_there, channel_joined, comes_in, out_is}
 use Rattle.run_laws.proofs.Lists.{there_below}
 use Rattle.slot_queue.specs.Ends.{Named, Sender, Receiver}
 use Rattle.slot_queue.specs.declared.ends.TxEnd.{TxEnd}
 use Rattle.slot_queue.specs.declared.ends.RxEnd.{RxEnd}
-use Rattle.sync_drive.specs.Standing.{StandsFrom}
 use Rattle.sync_laws.proofs.Changed.{get_mapped, mapped_at, map_mapped, all_at}
 use Rattle.sync_laws.proofs.Out.{one_sender, one_receiver}
 use Rattle.sync_laws.specs.Stands.{Stands}
@@ -31,10 +30,10 @@ use Rattle.sync_rule.specs.declared.port_plan.PortPlan.{PortPlan}
 use Rattle.sync_rule.specs.declared.runner.Runner.{Runner}
 use Rattle.run_threads.specs.declared.part.Part.{Part}
 use Rattle.run_threads.specs.CrewOf.{IsPartOf}
-use Rattle.run_threads.specs.Numbers.{seat, HasNumber, HaveNumbers, AreNumbers}
+use Rattle.run_threads.specs.Numbers.{seat, HaveNumbers, AreNumbers}
 use Rattle.run_threads.specs.Parts.{PartStands}
 use Rattle.run_threads.specs.Queues.{as_empty, its_sender, its_receiver}
-use Rattle.run_threads.specs.Stock.{froms_of, tos_of, IsFresh, AreFresh, IsNewPart}
+use Rattle.run_threads.specs.Stock.{froms_of, tos_of, IsFresh, IsNewPart}
 
 map_same : {X : Type 0} (xs : List X) → map (λ x. x) xs ≡ xs
 map_same [] = refl
@@ -97,7 +96,7 @@ module _ {V : Type 0} (b : Behaviour V) (starts : List V) (links : List Link) (e
     -- a queue's kind is that of the port to which its channel leads
     queue_kind : (k : ℕ) (ch : Channel) → slice_get (channels links) k ≡ Some ch → (queue : Named) → slice_get queues k ≡ Some queue → kind_at (map b.ports starts) ch.to ≡ Some queue.kind
     queue_kind k ch at queue named =
-        let has = (first_is_mesh b settled lawful starts links end wired at_start).queues k ch at in
+        let has : HasQueue (map b.ports starts) links k ch = queue_at b starts links end wired k ch at in
         has.kind ∙ ap (λ (q : Plain). Some q.kind) (same_Some has.queue (as_empty queue) (sym has.there ∙ sym (ap (λ l. slice_get l k) queues_are) ∙ get_mapped as_empty queues k queue named))
 
     module _ (part : Part V) (new : IsNewPart queues (froms_of links) (tos_of links) c (length (b.ports start)) (first_runner b links end c start) part) where

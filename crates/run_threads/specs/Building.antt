@@ -1,16 +1,16 @@
 -- What stands while the parts of the components are made, and dealt to workers.
 use Rattle.std.specs.Prelude.{ℕ, ◌≡◌, List, length, map, slice_get, Some}
-use Rattle.atomic_table.specs.Seated.{TableId}
 use Rattle.cs_base.specs.declared.link.Link.{Link}
 use Rattle.device_api.specs.Behaviour.{Behaviour}
 use Rattle.mesh_core.specs.declared.way.Seat.{Seat}
+use Rattle.mesh_core.specs.Start.{first_runner}
 use Rattle.slot_queue.specs.Ends.{Named}
 use Rattle.sync_rule.specs.declared.runner.Runner.{Runner}
 use Rattle.worker_rounds.specs.Rounds.{Work}
 use Rattle.run_threads.specs.declared.part.Part.{Part}
-use Rattle.run_threads.specs.CrewOf.{IsPartOf}
+use Rattle.run_threads.specs.CrewOf.{part_at}
 use Rattle.run_threads.specs.Dealing.{AreDealt, DealtMore}
-use Rattle.run_threads.specs.Stock.{IsNewPart}
+use Rattle.run_threads.specs.Stock.{IsNewPart, froms_of, tos_of}
 
 -- the part of a component was made, and dealt
 pub record IsPlaced {V : Type 0} (queues : List Named) (froms tos : List Seat)
@@ -19,15 +19,26 @@ pub record IsPlaced {V : Type 0} (queues : List Named) (froms tos : List Seat)
   pub made : IsNewPart queues froms tos component ports runner part
   pub dealt : DealtMore component part old new
 
--- those of the first so many components were
-pub record HaveParts {V : Type 0} (b : Behaviour V) (settled : V → ℕ → Type 0) (starts : List V)
-    (links : List Link) (end : ℕ) (names : List TableId) (count : ℕ)
-    (workers : List (Work (Part V))) : Type 0 where
+-- the part of a component whose device starts in this state, before its first turn
+abbrev pub IsFirstPart : {V : Type 0} → Behaviour V → List Link → ℕ → List Named → ℕ → V → Part V
+    → Type 0
+IsFirstPart b links end queues c start part = IsNewPart queues (froms_of links) (tos_of links) c
+    (length (b.ports start)) (first_runner b links end c start) part
+
+-- no part of a crew has made a turn
+pub record IsNewCrew {V : Type 0} (b : Behaviour V) (starts : List V) (links : List Link) (end : ℕ)
+    (queues : List Named) (workers : List (Work (Part V))) : Type 0 where
+  pub each : (c : ℕ) (start : V) (part : Part V) → slice_get starts c ≡ Some start
+      → part_at workers c ≡ Some part → IsFirstPart b links end queues c start part
+
+-- the parts of the first so many components were made, and dealt
+pub record HaveParts {V : Type 0} (b : Behaviour V) (starts : List V) (links : List Link) (end : ℕ)
+    (queues : List Named) (count : ℕ) (workers : List (Work (Part V))) : Type 0 where
   pub parts : List (Part V)
   pub as_many : length parts ≡ count
   pub dealt : AreDealt workers parts
   pub each : (c : ℕ) (start : V) (part : Part V) → slice_get starts c ≡ Some start
-      → slice_get parts c ≡ Some part → IsPartOf b settled links end names c start part
+      → slice_get parts c ≡ Some part → IsFirstPart b links end queues c start part
 
 -- the states in which the devices of new runners start
 abbrev pub starts_of : {V : Type 0} → List (Runner V) → List V

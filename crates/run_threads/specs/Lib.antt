@@ -1,4 +1,5 @@
 pub mod Queues
+pub mod Proxied
 pub mod Parts
 pub mod CrewOf
 pub mod Leaving
@@ -9,3 +10,8 @@ pub mod Ends
 pub mod Stock
 pub mod Dealing
 pub mod Building
+pub mod Closing
+pub mod Parting
+pub mod Seating
+pub mod Finishing
+pub mod Faults

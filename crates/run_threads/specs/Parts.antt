@@ -70,10 +70,14 @@ abbrev pub number_or : Option ℕ → ℕ
 number_or None = 0
 number_or (Some number) = number
 
-abbrev pub PartBroke : {V : Type 0} → Part V → Part V → RunBad → Type 0
-PartBroke old new bad = Failed tx_pushes tx_refuses rx_pops rx_empties
-    old.driver.runner old.driver.txs.items old.driver.rxs.items
-    new.driver.runner new.driver.txs.items new.driver.rxs.items bad
+-- a turn failed, and changed nothing but the driver
+pub record PartBroke {V : Type 0} (old new : Part V) (bad : RunBad) : Type 0 where
+  pub component : new.component ≡ old.component
+  pub departures : new.departures ≡ old.departures
+  pub arrivals : new.arrivals ≡ old.arrivals
+  pub failed : Failed tx_pushes tx_refuses rx_pops rx_empties
+      old.driver.runner old.driver.txs.items old.driver.rxs.items
+      new.driver.runner new.driver.txs.items new.driver.rxs.items bad
 
 -- a turn met a fault: want of memory, or a wrong introduction on the channel that comes in at a
 -- port

@@ -1,22 +1,31 @@
 //! The parts of all components, on their workers.
-ghost use Rattle.std.specs.Prelude.{◌≡◌, ◌≤◌, ◌<◌, ◌+◌, [], length, map, All, IfOk};
+ghost use Rattle.std.specs.Prelude.{◌≡◌, ◌≤◌, ◌<◌, ◌+◌, [], length, map, All, IfOk, IfErr};
+ghost use Rattle.cs_base.specs.declared.link.Link.{Link};
+ghost use Rattle.cs_base.specs.declared.port_kind.Via.TheVariants.{Queue as ByQueue};
 ghost use Rattle.mesh_core.specs.Start.{first_runners, queues_of};
 ghost use Rattle.slot_queue.specs.Ends.{Named};
-ghost use Rattle.run_threads.specs.Building.{IsPlaced, starts_of};
+ghost use Rattle.run_threads.specs.declared.build_bad.BuildBad.TheVariants.{NoMemory as WantOfMemory};
+ghost use Rattle.run_threads.specs.Building.{IsPlaced, IsNewCrew, starts_of};
+ghost use Rattle.run_threads.specs.Closing.{HasRoomFor};
 ghost use Rattle.run_threads.specs.CrewOf.{IsCrewOf};
-ghost use Rattle.run_threads.specs.Dealing.{AreDealt};
+ghost use Rattle.run_threads.specs.Dealing.{AreDealt, AreNumbered};
 ghost use Rattle.run_threads.specs.Numbers.{HaveNumbers};
-ghost use Rattle.run_threads.specs.Queues.{as_empty, its_sender, its_receiver};
+ghost use Rattle.run_threads.specs.Queues.{AreNew, as_empty, its_sender, its_receiver};
 ghost use Rattle.run_threads.specs.Stock.{HaveSides, froms_of, tos_of};
 
-use crate::dealing::deal;
+use crate::build_bad::BuildBad;
+use crate::closing::Closing;
+use crate::crew::Crew;
+use crate::dealing::{deal, idle_workers};
 use crate::part::Part;
 use crate::stock::Stock;
+use cs_base::dialer::Dialer;
 use cs_base::items::Items;
 use cs_base::no_memory::NoMemory;
 use cs_base::wiring::Wiring;
 use device_api::Device;
-use slot_queue::SlotQueue;
+use mesh_core::build::runners_of;
+use slot_queue::{Consumer, Producer, SlotQueue};
 use std::alloc::Global;
 use sync_rule::Runner;
 use worker_rounds::Worker;
@@ -41,6 +50,7 @@ fn place<'q, V: Device>(
     requires some_worker { 0 < length workers.old }
     ensures placed { IfOk result (λ _. IsPlaced queues.now
         stock.old.froms.items stock.old.tos.items component ports runner workers.old workers.new) }
+    ensures numbered { IfOk result (λ _. AreNumbered workers.old → AreNumbered workers.new) }
     ensures froms { stock.new.froms ≡ stock.old.froms }
     ensures tos { stock.new.tos ≡ stock.old.tos }
     ensures senders { IfOk result (λ _. HaveSides its_sender queues.now
@@ -74,9 +84,12 @@ pub(crate) fn deal_all<'q, V: Device>(
     requires receivers { HaveSides its_receiver queues.now
         stock.old.tos.items stock.old.receivers.items 0 }
     requires workers { AreDealt workers.old [] }
-    ensures { IfOk result (λ _. IsCrewOf V.behaviour V.settled (starts_of runners.items)
+    ensures numbered { IfOk result (λ _. AreNumbered workers.old → AreNumbered workers.new) }
+    ensures crew { IfOk result (λ _. IsCrewOf V.behaviour V.settled (starts_of runners.items)
         wiring.now.links wiring.now.end (map (λ (queue : Named). queue.name) queues.now)
         workers.new) }
+    ensures fresh { IfOk result (λ _. IsNewCrew V.behaviour (starts_of runners.items)
+        wiring.now.links wiring.now.end queues.now workers.new) }
 {
     let mut left = Items::from_vec(runners);
     left.reverse();
@@ -87,4 +100,88 @@ pub(crate) fn deal_all<'q, V: Device>(
         component += 1;
     }
     Ok(())
+}
+
+/// The workers of devices at their start.
+fn workers_of<'q, V: Device>(
+    alloc: Global,
+    queues: &'q [SlotQueue],
+    producers: Vec<Producer>,
+    consumers: Vec<Consumer>,
+    devices: Vec<V>,
+    wiring: &Wiring,
+    workers: u32,
+) -> Result<Vec<Worker<Part<'q, V>>>, NoMemory>
+    requires new { AreNew wiring.now.kinds wiring.now.links
+        queues.now producers.items consumers.items }
+    requires matches { map V.behaviour.ports devices.items ≡ wiring.now.kinds }
+    requires at_start { All (λ device. V.settled device 0) devices.items }
+    requires some_worker { 1 ≤ workers }
+    ensures crew { IfOk result (λ made. IsCrewOf V.behaviour V.settled devices.items
+        wiring.now.links wiring.now.end (map (λ (queue : Named). queue.name) queues.now)
+        made.items) }
+    ensures fresh { IfOk result (λ made. IsNewCrew V.behaviour devices.items
+        wiring.now.links wiring.now.end queues.now made.items) }
+    ensures as_many { IfOk result (λ made. length made.items ≡ workers) }
+    ensures numbered { IfOk result (λ made. AreNumbered made.items) }
+{
+    let kinds = wiring.kinds.as_slice();
+    let links = wiring.links.as_slice();
+    let mut stock = Stock::new(alloc, links, producers, consumers)?;
+    let mut made = idle_workers(alloc, workers)?;
+    let runners = runners_of(alloc, devices, kinds, links, wiring.end)?;
+    deal_all(
+        alloc,
+        queues,
+        wiring,
+        &mut stock,
+        made.as_mut_slice(),
+        runners,
+    )?;
+    Ok(made)
+}
+
+impl<'q, V: Device, O, I> Crew<'q, V, O, I> {
+    /// The crew of devices at their start that are joined by a wiring of which no link goes by proxy: their components go to
+    /// workers by number modulo the number of workers, of which there are 1 to 64, and some may have none. The queues are
+    /// those of `Queues::build` for this wiring. No channel is dialed, so that only `NoMemory` comes.
+    pub fn build<D: Dialer<Out = O, In = I>>(
+        alloc: Global,
+        queues: &'q [SlotQueue],
+        producers: Vec<Producer>,
+        consumers: Vec<Consumer>,
+        devices: Vec<V>,
+        wiring: &Wiring,
+        workers: u32,
+        dial: &mut D,
+    ) -> Result<Crew<'q, V, O, I>, BuildBad>
+        requires new { AreNew wiring.now.kinds wiring.now.links
+            queues.now producers.items consumers.items }
+        requires matches { map V.behaviour.ports devices.items ≡ wiring.now.kinds }
+        requires at_start { All (λ device. V.settled device 0) devices.items }
+        requires by_queues { All (λ (link : Link). link.via ≡ ByQueue) wiring.now.links }
+        requires workers { (1 ≤ workers) × (workers ≤ 64) }
+        ensures crew { IfOk result (λ crew. IsCrewOf V.behaviour V.settled devices.items
+            wiring.now.links wiring.now.end (map (λ (queue : Named). queue.name) queues.now)
+            crew.workers.items) }
+        ensures fresh { IfOk result (λ crew. IsNewCrew V.behaviour devices.items
+            wiring.now.links wiring.now.end queues.now crew.workers.items) }
+        ensures as_many { IfOk result (λ crew. length crew.workers.items ≡ workers) }
+        ensures numbered { IfOk result (λ crew. AreNumbered crew.workers.items) }
+        ensures room { IfOk result (λ crew. HasRoomFor (length devices.items) wiring.now.links
+            crew.closing) }
+        ensures no_ends { IfOk result (λ crew. crew.ends.items ≡ []) }
+        ensures fault { IfErr result (λ bad. bad ≡ WantOfMemory) }
+        ensures dialer { dial.new ≡ dial.old }
+    {
+        let closing = Closing::new(alloc, wiring)?;
+        let made = workers_of(
+            alloc, queues, producers, consumers, devices, wiring, workers,
+        )?;
+        Ok(Crew {
+            workers: made,
+            ends: Vec::new(alloc),
+            closing,
+        })
+    }
 }

@@ -3,11 +3,12 @@ ghost use Rattle.cs_base.specs.Plan.{IsWithinLimits};
 ghost use Rattle.cs_base.specs.declared.link.Link.{Link};
 ghost use Rattle.cs_base.specs.declared.port_kind.Via.TheVariants.{Queue as ByQueue};
 ghost use Rattle.run_threads.specs.Queues.{AreNew, Added};
+ghost use Rattle.run_threads.specs.Proxied.{AreAllNew, ChannelAdded};
 
 use cs_base::items::Items;
 use cs_base::link::Link;
 use cs_base::no_memory::NoMemory;
-use cs_base::port_kind::PortKind;
+use cs_base::port_kind::{PortKind, Via};
 use cs_base::wiring::Wiring;
 use mesh_core::build::kind_of;
 use slot_queue::{Consumer, Producer, SlotQueue};
@@ -32,6 +33,36 @@ impl Queues {
         build_all(alloc, wiring.kinds.as_slice(), wiring.links.as_slice())
     }
 
+    /// New queues for the channels of a wiring, in the order of the channels: one for a channel by queue, and two, near then
+    /// far, for one by proxy. Each has as many slots as its link asks for, and the kind of the port that receives from its
+    /// channel.
+    pub fn build_whole(alloc: Global, wiring: &Wiring) -> Result<Queues, NoMemory>
+        ensures { IfOk result (λ made. AreAllNew wiring.now.kinds wiring.now.links
+            made.queues.items made.producers.items made.consumers.items) }
+    {
+        build_along(alloc, wiring.kinds.as_slice(), wiring.links.as_slice())
+    }
+
+    /// The queues of one channel more: one, or two where it goes by proxy.
+    fn add_channel(
+        &mut self,
+        alloc: Global,
+        via: Via,
+        slots: u32,
+        kind: PortKind,
+    ) -> Result<(), NoMemory>
+        requires { (1 ≤ slots) × (slots ≤ 1024) }
+        ensures { OnOk result (ChannelAdded via slots kind
+            self.old.queues.items self.old.producers.items self.old.consumers.items
+            self.new.queues.items self.new.producers.items self.new.consumers.items) }
+    {
+        self.add(alloc, slots, kind)?;
+        match via {
+            Via::Queue => Ok(()),
+            Via::Proxy => self.add(alloc, slots, kind),
+        }
+    }
+
     /// One queue more.
     fn add(&mut self, alloc: Global, slots: u32, kind: PortKind) -> Result<(), NoMemory>
         requires { (1 ≤ slots) × (slots ≤ 1024) }
@@ -45,6 +76,26 @@ impl Queues {
         self.consumers.push(consumer)?;
         Ok(())
     }
+}
+
+/// The queues of the two channels of each link, of which some may go by proxy.
+fn build_along(alloc: Global, kinds: &[Items<PortKind>], links: &[Link]) -> Result<Queues, NoMemory>
+    requires { All IsWithinLimits links.now }
+    ensures { IfOk result (λ made. AreAllNew kinds.now links.now
+        made.queues.items made.producers.items made.consumers.items) }
+{
+    let mut made = Queues {
+        queues: Vec::new(alloc),
+        producers: Vec::new(alloc),
+        consumers: Vec::new(alloc),
+    };
+    for link in links {
+        let kind = kind_of(kinds, link.b, link.b_port);
+        made.add_channel(alloc, link.via, link.slots, kind)?;
+        let kind = kind_of(kinds, link.a, link.a_port);
+        made.add_channel(alloc, link.via, link.slots, kind)?;
+    }
+    Ok(made)
 }
 
 /// The queues of the two channels of each link.

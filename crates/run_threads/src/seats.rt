@@ -1,5 +1,6 @@
-//! Elements of lists in places of their own, from which they are taken in whatever order.
+//! Elements of lists in places of their own, from which they are taken in whatever order, and to which they come back.
 ghost use Rattle.std.specs.Prelude.{◌≡◌, ◌<◌, length, map, slice_get, slice_set, Some, None, IfOk};
+ghost use Rattle.run_threads.specs.Parting.{HavePlaces, PutBack};
 ghost use Rattle.run_threads.specs.Seats.{AreThere, Taken};
 
 use cs_base::items::Items;
@@ -45,4 +46,23 @@ pub(crate) fn take_at<X: Drop>(
         taken.push(item)?;
     }
     Ok(taken)
+}
+
+/// Puts an element into a place.
+fn put_slot<X: Drop>(slots: &mut [Option<X>], place: usize, item: X)
+    requires { place < length slots.old }
+    ensures { slots.new ≡ slice_set slots.old place (Some item) }
+{
+    slots[place] = Some(item);
+}
+
+/// Puts each element into its place. It takes no memory.
+pub(crate) fn put_back<X: Drop>(items: Vec<X>, places: &[u32], slots: &mut [Option<X>])
+    requires { HavePlaces (length items.items) (length slots.old) places.now }
+    ensures { PutBack items.items places.now slots.old slots.new }
+{
+    let mut left = Items::from_vec(items);
+    'items: while let Some(item) = left.pop() {
+        put_slot(slots, places[left.len()] as usize, item);
+    }
 }

@@ -1,19 +1,22 @@
 //! What the parts of a crew are made from.
-ghost use Rattle.std.specs.Prelude.{◌≡◌, ◌≤◌, ◌+◌, length, IfOk};
+ghost use Rattle.std.specs.Prelude.{◌≡◌, ◌≤◌, ◌+◌, length, map, Some, IfOk};
+ghost use Rattle.mesh_core.specs.declared.way.Way.{Way as Leads};
 ghost use Rattle.slot_queue.specs.declared.ends.TxEnd.{TxEnd as Tx};
 ghost use Rattle.slot_queue.specs.declared.ends.RxEnd.{RxEnd as Rx};
 ghost use Rattle.run_threads.specs.Numbers.{HaveNumbers, AreNumbers};
 ghost use Rattle.run_threads.specs.Queues.{its_sender, its_receiver};
-ghost use Rattle.run_threads.specs.Stock.{HaveSides, AreFresh, IsNewPart};
+ghost use Rattle.run_threads.specs.Stock.{HaveSides, AreFresh, IsNewPart, froms_of, tos_of};
 
 use crate::ends::{rx_ends, tx_ends};
 use crate::numbers::numbers_of;
 use crate::part::Part;
-use crate::seats::take_at;
+use crate::seats::{loosen, take_at};
 use cs_base::items::Items;
+use cs_base::link::Link;
 use cs_base::no_memory::NoMemory;
 use device_api::Device;
-use mesh_core::way::Seat;
+use mesh_core::build::ways_of;
+use mesh_core::way::{Seat, Way};
 use slot_queue::{Consumer, Producer, RxEnd, SlotQueue, TxEnd};
 use std::alloc::Global;
 use sync_drive::Driver;
@@ -100,6 +103,20 @@ fn part_of<'q, V: Device>(
     }
 }
 
+/// Out of which ports these ways lead.
+fn seats_from(alloc: Global, ways: &[Way]) -> Result<Vec<Seat>, NoMemory>
+    ensures { IfOk result (λ seats. seats.items ≡ map (λ (way : Leads). way.from) ways.now) }
+{
+    Ok(ways.iter().map(|way| way.from).collect(alloc)?)
+}
+
+/// Into which ports they lead.
+fn seats_to(alloc: Global, ways: &[Way]) -> Result<Vec<Seat>, NoMemory>
+    ensures { IfOk result (λ seats. seats.items ≡ map (λ (way : Leads). way.to) ways.now) }
+{
+    Ok(ways.iter().map(|way| way.to).collect(alloc)?)
+}
+
 /// The ports out of which the channels lead, and those into which they lead, by the channels' numbers; and the sides of the
 /// queues in slots by the same numbers, until the parts of their components are made.
 #[derive(Drop)]
@@ -111,6 +128,30 @@ pub(crate) struct Stock {
 }
 
 impl Stock {
+    /// The ports of the channels of these links, and the sides of all their queues.
+    pub(crate) fn new(
+        alloc: Global,
+        links: &[Link],
+        producers: Vec<Producer>,
+        consumers: Vec<Consumer>,
+    ) -> Result<Stock, NoMemory>
+        ensures froms { IfOk result (λ stock. stock.froms.items ≡ froms_of links.now) }
+        ensures tos { IfOk result (λ stock. stock.tos.items ≡ tos_of links.now) }
+        ensures senders { IfOk result (λ stock. stock.senders.items ≡ map Some producers.items) }
+        ensures receivers { IfOk result (λ stock. stock.receivers.items
+            ≡ map Some consumers.items) }
+    {
+        let ways = ways_of(alloc, links)?;
+        let froms = seats_from(alloc, ways.as_slice())?;
+        let tos = seats_to(alloc, ways.as_slice())?;
+        Ok(Stock {
+            froms,
+            tos,
+            senders: loosen(alloc, producers)?,
+            receivers: loosen(alloc, consumers)?,
+        })
+    }
+
     /// The part of a component with so many ports, made after those of the components before it.
     pub(crate) fn part<'q, V: Device>(
         &mut self,

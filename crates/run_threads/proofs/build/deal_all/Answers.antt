@@ -1,16 +1,16 @@
-use Rattle.std.proofs.Common.{rules, ◌≤◌, ◌≡◌, ◌<◌, ◌+◌, length, reverse, refl, sym, ap, ◌∙◌, subst, arith}
+use Rattle.std.proofs.Common.{rules, ◌≤◌, ◌≡◌, ◌<◌, length, reverse, refl, sym, ap, ◌∙◌, arith}
 use Rattle.std.specs.Prelude.{slice_get}
 use Rattle.run_threads.proofs.SeatsTaken.{same_element}
-use Rattle.run_threads.specs.Queues.{its_sender, its_receiver}
-use Rattle.run_threads.specs.Stock.{HaveSides, froms_of, tos_of}
+use Rattle.run_threads.specs.Stock.{froms_of, tos_of}
 use Rattle.run_threads.proofs.InTurn.{none_taken, next_there, one_taken, all_taken, kinds_there}
-use Rattle.run_threads.proofs.InAll.{within_kinds, few_kinds, froms_there, tos_there, few_both, none_made, one_made, all_made}
+use Rattle.run_threads.proofs.InAll.{within_kinds, few_kinds, froms_there, tos_there, few_both, none_made, one_made, all_made, all_unused}
 use Rattle.run_threads.proofs.build.deal_all.Goals as goal
 
 pub runners-init : goal.runners-init
 runners-init g c = record {
   taken = none_taken c.args.runners.items _ (c.reverse.ensures ∙ ap reverse c.from_vec-left.ensures);
   parts = none_made g.V.Device.behaviour g.V.Device.settled c.args.wiring.now.kinds c.args.wiring.now.links c.args.wiring.now.end c.args.wiring.now.valid c.args.runners.items c.requires.first c.requires.matches g.met.V.Device.lawful c.requires.at_start c.args.queues.now c.requires.queues c.args.workers.now c.requires.workers;
+  numbered = λ numbered. numbered;
   froms = refl;
   tos = refl;
   senders = c.requires.senders;
@@ -55,11 +55,15 @@ runners-preserved g c =
     record {
       taken = one_taken c.args.runners.items c.runners.component c.runners.left c.pop.new.self c.in-Some.runner c.runners.invariant.taken c.in-Some.ensures.last;
       parts = one_made g.V.Device.behaviour g.V.Device.settled c.args.wiring.now.kinds c.args.wiring.now.links c.args.wiring.now.end c.args.wiring.now.valid c.args.runners.items c.requires.first c.requires.matches g.met.V.Device.lawful c.requires.at_start c.args.queues.now c.requires.queues c.runners.component c.in-Some.runner there c.len-ports.result is c.runners.stock.froms.items c.runners.stock.tos.items froms_are tos_are c.runners.workers c.place.new.workers c.runners.invariant.parts c.in_ok-place.ensures.placed;
+      numbered = λ numbered. c.in_ok-place.ensures.numbered (c.runners.invariant.numbered numbered);
       froms = c.in_ok-place.ensures.froms ∙ c.runners.invariant.froms;
       tos = c.in_ok-place.ensures.tos ∙ c.runners.invariant.tos;
       senders = search rules;
       receivers = search rules;
     }
 
-pub returns : goal.returns
-returns g c = all_made g.V.Device.behaviour g.V.Device.settled c.args.wiring.now.kinds c.args.wiring.now.links c.args.wiring.now.end c.args.wiring.now.valid c.args.runners.items c.requires.first c.requires.matches g.met.V.Device.lawful c.requires.at_start c.args.queues.now c.requires.queues c.runners.component c.runners.workers c.runners.invariant.parts (all_taken c.args.runners.items c.runners.component c.runners.left c.runners.invariant.taken c.in_default.ensures.none)
+pub returns-clause-crew : goal.returns-clause-crew
+returns-clause-crew g c = all_made g.V.Device.behaviour g.V.Device.settled c.args.wiring.now.kinds c.args.wiring.now.links c.args.wiring.now.end c.args.wiring.now.valid c.args.runners.items c.requires.first c.requires.matches g.met.V.Device.lawful c.requires.at_start c.args.queues.now c.requires.queues c.runners.component c.runners.workers c.runners.invariant.parts (all_taken c.args.runners.items c.runners.component c.runners.left c.runners.invariant.taken c.in_default.ensures.none)
+
+pub returns-clause-fresh : goal.returns-clause-fresh
+returns-clause-fresh g c = all_unused g.V.Device.behaviour g.V.Device.settled c.args.wiring.now.kinds c.args.wiring.now.links c.args.wiring.now.end c.args.wiring.now.valid c.args.runners.items c.requires.first c.requires.matches g.met.V.Device.lawful c.requires.at_start c.args.queues.now c.requires.queues c.runners.component c.runners.workers c.runners.invariant.parts (all_taken c.args.runners.items c.runners.component c.runners.left c.runners.invariant.taken c.in_default.ensures.none)

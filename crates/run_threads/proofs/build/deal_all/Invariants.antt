@@ -1,6 +1,6 @@
-use Rattle.std.proofs.Common.{◌≡◌, map, length}
-use Rattle.slot_queue.specs.Ends.{Named}
+use Rattle.std.proofs.Common.{◌≡◌, length}
 use Rattle.run_threads.specs.Building.{HaveParts, starts_of}
+use Rattle.run_threads.specs.Dealing.{AreNumbered}
 use Rattle.run_threads.specs.Queues.{its_sender, its_receiver}
 use Rattle.run_threads.specs.Stock.{HaveSides}
 use Rattle.run_threads.proofs.InTurn.{AreTaken}
@@ -9,7 +9,8 @@ use Rattle.run_threads.proofs.build.deal_all.Given as goal
 abbrev pub invariant-runners : goal.invariant-runners
 invariant-runners g l = record {
   taken : AreTaken l.fn.runners.items l.component l.left;
-  parts : HaveParts g.V.Device.behaviour g.V.Device.settled (starts_of l.fn.runners.items) l.fn.wiring.links l.fn.wiring.end (map (λ (queue : Named). queue.name) l.fn.queues) l.component l.workers;
+  parts : HaveParts g.V.Device.behaviour (starts_of l.fn.runners.items) l.fn.wiring.links l.fn.wiring.end l.fn.queues l.component l.workers;
+  numbered : AreNumbered l.fn.workers → AreNumbered l.workers;
   froms : l.stock.froms ≡ l.fn.stock.froms;
   tos : l.stock.tos ≡ l.fn.stock.tos;
   senders : HaveSides its_sender l.fn.queues l.fn.stock.froms.items l.stock.senders.items l.component;

@@ -1,7 +1,7 @@
 use Rattle.std.proofs.Common.{◌≡◌, ◌++◌, drop, map}
 use Rattle.mesh_core.specs.Start.{queues_of}
 use Rattle.run_threads.specs.Queues.{as_empty}
-use Rattle.run_threads.proofs.Built.{AreSides}
+use Rattle.run_threads.specs.Proxied.{AreSides}
 use Rattle.run_threads.proofs.queues.build_all.Given as goal
 
 abbrev pub invariant-loop-link : goal.invariant-loop-link

@@ -1,4 +1,4 @@
-use Rattle.std.proofs.Common.{◌≡◌, ◌∙◌, ap, sym, subst, arith, length, Some}
+use Rattle.std.proofs.Common.{◌≡◌, ◌∙◌, ap, subst, arith, length, Some}
 use Rattle.std.proofs.lemmas.Option.{slice_get-get_or, slice_get_within}
 use Rattle.run_threads.specs.Seats.{TakenSoFar}
 use Rattle.run_threads.proofs.SeatsTaken.{is_there, taken_more, not_none}
