@@ -1,0 +1,4 @@
+mod Closings
+mod Reserving
+mod Delivering
+mod Spending
