@@ -16,10 +16,11 @@ use Rattle.cosim_cmd.specs.declared.refusal.Refusal.TheVariants as refused
 use Rattle.cosim_cmd.specs.NoTopology.{IsNoTopology}
 use Rattle.cosim_cmd.specs.Sentence.{Text, Sentence, Check, Model, Serial, Replay, Asm, file_of}
 use Rattle.cosim_cmd.specs.Inputs.{Inputs, AreImages, AreFurther, HasRead}
-use Rattle.cosim_cmd.specs.Outputs.{LacksTopology, LacksService, LacksHostRoom, LacksStep, LacksProgram, Accepts}
+use Rattle.cosim_cmd.specs.Outputs.{LacksTopology, LacksHostRoom, LacksStep, LacksProgram, Accepts}
 use Rattle.cosim_cmd.specs.Refusals.{status_of, output_status}
-use Rattle.cosim_cmd.specs.Local.{OfFile, IsOutputBad, IsRefusal, IsAccepted, Stays}
-use Rattle.cosim_cmd.specs.Replay.{first_proxied, CanStep, IsFaulty}
+use Rattle.cosim_cmd.specs.Request.{Request, OnFiles, Load}
+use Rattle.cosim_cmd.specs.Local.{OfFile, IsOutputBad, IsAnswerBad, IsRefusal, CanAnswer, IsAccepted, Stays}
+use Rattle.cosim_cmd.specs.Replay.{CanStep, IsFaulty}
 use Rattle.replay_run.proofs.Determined.{one_outcome}
 use Rattle.device_set.specs.AnyKind.{any_device}
 use Rattle.device_set.specs.Starts.{starts_of}
@@ -39,18 +40,6 @@ has_topology (Model file stats) inputs line accepted lacks = no_topology inputs.
 has_topology (Serial file stats) inputs line accepted lacks = no_topology inputs.text line accepted.topology accepted.spelled lacks
 has_topology (Replay file schedule) inputs line accepted lacks = no_topology inputs.text line accepted.fact.topology accepted.fact.spelled lacks
 has_topology (Asm file) inputs line accepted lacks = lacks
-
--- no link goes by proxy
-has_service : (s : Sentence) (inputs : Inputs) (line : List ℕ) → Accepts s inputs → LacksService s inputs.text line → ⊥
-has_service (Check file) inputs line accepted lacks = lacks
-has_service (Model file stats) inputs line accepted lacks = lacks
-has_service (Serial file stats) inputs line accepted lacks =
-    let same : accepted.topology ≡ lacks.topology = one_topology inputs.text accepted.topology lacks.topology accepted.spelled lacks.spelled in
-    let clash : None ≡ Some lacks.fact.number = sym accepted.fact.by_queues ∙ ap first_proxied same ∙ lacks.fact.first in cc
-has_service (Replay file schedule) inputs line accepted lacks =
-    let same : accepted.fact.topology ≡ lacks.topology = one_topology inputs.text accepted.fact.topology lacks.topology accepted.fact.spelled lacks.spelled in
-    let clash : None ≡ Some lacks.fact.number = sym accepted.fact.fact.0.by_queues ∙ ap first_proxied same ∙ lacks.fact.first in cc
-has_service (Asm file) inputs line accepted lacks = lacks
 
 -- two texts of one last element
 last_apart : (xs ys : List (List ℕ)) (x y : List ℕ) → xs ++ x ∷ [] ≡ ys ++ y ∷ [] → (xs ≡ ys) × (x ≡ y)
@@ -152,24 +141,24 @@ module _ (held : Text → Option (List ℕ)) (inputs : Inputs) (names : List Tex
   has_room (Serial file stats) accepted further lacks =
       let same : accepted.topology ≡ lacks.topology = one_topology inputs.text accepted.topology lacks.topology accepted.spelled lacks.spelled in
       let programs : inputs.more ≡ images = sym (are_told names inputs.more further told) in
-      let clash : None ≡ Some lacks.fact.1.number = sym accepted.fact.fit ∙ ap₂ too_long same programs ∙ lacks.fact.1.too_long_is in cc
+      let clash : None ≡ Some lacks.fact.number = sym accepted.fact ∙ ap₂ too_long same programs ∙ lacks.fact.too_long_is in cc
   has_room (Replay file schedule) accepted further lacks =
       let same : accepted.fact.topology ≡ lacks.topology = one_topology inputs.text accepted.fact.topology lacks.topology accepted.fact.spelled lacks.spelled in
       let told_all : AllZip (λ name bytes. held name ≡ Some bytes) (further.images ++ schedule ∷ []) (accepted.images ++ accepted.schedule ∷ []) = subst (λ contents. AllZip (λ name bytes. held name ≡ Some bytes) (further.images ++ schedule ∷ []) contents) accepted.behind (subst (λ names. AllZip (λ name bytes. held name ≡ Some bytes) names inputs.more) further.behind told) in
       let told_images : AllZip (λ name bytes. held name ≡ Some bytes) further.images accepted.images = all_but_last (λ name bytes. held name ≡ Some bytes) further.images schedule accepted.images accepted.schedule told_all in
       let programs : accepted.images ≡ images = sym (are_told further.images accepted.images further.are_images told_images) in
-      let clash : None ≡ Some lacks.fact.1.number = sym accepted.fact.fact.0.fit ∙ ap₂ too_long same programs ∙ lacks.fact.1.too_long_is in cc
+      let clash : None ≡ Some lacks.fact.number = sym accepted.fact.fact.0 ∙ ap₂ too_long same programs ∙ lacks.fact.too_long_is in cc
   has_room (Asm file) accepted further lacks = lacks
 
 module _ (before after : FilesSeen) (s : Sentence) (inputs : Inputs) (names : List Text) (further : AreFurther s inputs.text names) (more_told : AllZip (λ name bytes. before.held name ≡ Some bytes) names inputs.more) (told : before.held (file_of s) ≡ Some inputs.text) (accepted : Accepts s inputs) where
-  of_text : (Lacks : List ℕ → Type 0) → OfFile s before after Lacks → Lacks inputs.text
+  pub of_text : (Lacks : List ℕ → Type 0) → OfFile s before after Lacks → Lacks inputs.text
   of_text Lacks of = subst Lacks (told_alone (before.held (file_of s)) of.bytes inputs.text of.read.told told) of.fact
 
-  made : (bad : OutputBad) → IsOutputBad s before after bad → Stays before.faults after.faults → output_status bad ≡ 1
+  pub made : (bad : OutputBad) → IsOutputBad s before after bad → Stays before.faults after.faults → output_status bad ≡ 1
   made bad.NoMemory why stays = refl
   made (bad.File line) why stays = absurd (stays why.failed)
   made (bad.Topology line) why stays = absurd (has_topology s inputs line accepted (of_text (λ bytes. LacksTopology s bytes line) why))
-  made (bad.NotBuilt line) why stays = absurd (has_service s inputs line accepted (of_text (λ bytes. LacksService s bytes line) why))
+  made (bad.NotBuilt line) why stays = absurd why
   made (bad.Image line) why stays =
       let text : why.bytes ≡ inputs.text = told_alone (before.held (file_of s)) why.bytes inputs.text why.read.told.0 told in
       let are : AreImages inputs.text why.names = subst (λ (bytes : List ℕ). AreImages bytes why.names) text why.are_images in
@@ -179,15 +168,20 @@ module _ (before after : FilesSeen) (s : Sentence) (inputs : Inputs) (names : Li
       absurd (has_step s inputs line accepted (subst (λ (i : Inputs). LacksStep s i line) same why.fact))
   made (bad.Asm line) why stays = absurd (has_program s inputs line accepted (of_text (λ bytes. LacksProgram s bytes line) why))
 
+-- what can be answered is refused for want of memory alone
+answer_made : (before after : FilesSeen) (request : Request) → CanAnswer request before.held → (bad : OutputBad) → IsAnswerBad request before after bad → Stays before.faults after.faults → output_status bad ≡ 1
+answer_made before after (OnFiles s) can bad why stays = made before after s can.inputs can.names can.are_further can.more_told can.told can.accepted bad why stays
+answer_made before after (Load stations as_text) can bad why stays = ap output_status why
+
 -- a command that can take its files is refused for want of memory alone, where no read and no write fails
 pub answered : (words : List Text) (before after : FilesSeen) (refusal : Refusal) → IsRefusal words before after refusal → (refusal ≡ refused.Out → ⊥) → IsAccepted words before.held → Stays before.faults after.faults → status_of refusal ≡ 1
 answered words before after refused.NoMemory why written accepted stays = refl
-answered words before after refused.Usage why written accepted stays = let clash : None ≡ Some accepted.sentence = sym why ∙ accepted.said in cc
+answered words before after refused.Usage why written accepted stays = let clash : None ≡ Some accepted.request = sym why ∙ accepted.asked in cc
 answered words before after refused.Out why written accepted stays = absurd (written refl)
 answered words before after (refused.NoOutput bad) why written accepted stays =
-    let same_said : Some why.sentence ≡ Some accepted.sentence = sym why.said ∙ accepted.said in
-    let same : why.sentence ≡ accepted.sentence = cc in
-    made before after accepted.sentence accepted.inputs accepted.names accepted.are_further accepted.more_told accepted.told accepted.accepted bad (subst (λ s. IsOutputBad s before after bad) same why.fact) stays
+    let same_asked : Some why.request ≡ Some accepted.request = sym why.asked ∙ accepted.asked in
+    let same : why.request ≡ accepted.request = cc in
+    answer_made before after accepted.request accepted.fact bad (subst (λ request. IsAnswerBad request before after bad) same why.fact) stays
 
 -- the status of what is refused for its output alone
 pub is_out : (refusal : Refusal) → status_of refusal ≡ 9 → refusal ≡ refused.Out

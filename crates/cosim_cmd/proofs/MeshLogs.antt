@@ -1,13 +1,10 @@
 -- The logs of a mesh of a topology's devices, however it was stepped: one for each component, of lines before the end.
-use Rattle.std.proofs.Common.{ℕ, ◌≡◌, ◌<◌, ◌+◌, ◌++◌, Bool, cond, List, [], ◌∷◌, Some, None, true, false, map, length, drop, refl, ap, ◌∙◌, subst, get_or, arith}
-use Rattle.std.specs.Prelude.{All, slice_get}
-use Rattle.std.specs.List.{AllByRecursion}
+use Rattle.std.proofs.Common.{ℕ, ◌≡◌, ◌<◌, ◌++◌, List, map, length, ◌∙◌, subst, get_or, arith}
+use Rattle.std.specs.Prelude.{slice_get}
 use Rattle.std.proofs.lemmas.List.{length-append, length-map, get_or_append_left}
-use Rattle.std.proofs.lemmas.List.Elements.{All-map, All-from_recursion}
+use Rattle.std.proofs.lemmas.List.Elements.{All-map}
 use Rattle.std.proofs.lemmas.Option.{slice_get-get_or}
 use Rattle.cs_base.specs.declared.link.Link.{Link}
-use Rattle.cs_base.specs.declared.port_kind.Via.{Via}
-use Rattle.cs_base.specs.declared.port_kind.Via.TheVariants.{Queue, Proxy}
 use Rattle.device_api.specs.Behaviour.{Behaviour}
 use Rattle.device_api.specs.declared.logs.Line.{Line}
 use Rattle.device_api.specs.World.{log_of, global_until}
@@ -19,7 +16,6 @@ use Rattle.mesh_core.specs.State.{State}
 use Rattle.mesh_core.specs.MeshOf.{IsMeshOf}
 use Rattle.mesh_core.specs.Laws.{LogsBegin}
 use Rattle.mesh_core.specs.Left.{logs_left}
-use Rattle.cosim_cmd.specs.Replay.{is_proxied, first_proxied_from}
 use Rattle.cosim_cmd.proofs.LogTimes.{log_of-before}
 
 -- the first lines of a log
@@ -37,22 +33,3 @@ module _ {V : Type 0} (b : Behaviour V) (settled : V → ℕ → Type 0) (begin 
 
   pub length-logs_left : length (logs_left mesh) ≡ length starts
   length-logs_left = length-map mesh.runners (λ (r : Runner V). r.log) ∙ of.whole.as_many
-
--- ---- links of which none goes by proxy
-
--- one link further
-pub one_further : (links : List Link) (n : ℕ) (link : Link) (more : List Link) → drop n links ≡ link ∷ more → is_proxied link.via ≡ false → first_proxied_from n (drop n links) ≡ first_proxied_from (n + 1) more
-one_further links n link more split is = ap (first_proxied_from n) split ∙ ap (λ (proxied : Bool). cond proxied (Some n) (first_proxied_from (n + 1) more)) is
-
-by_queue : (i : ℕ) (via : Via) (more : List Link) → cond (is_proxied via) (Some i) (first_proxied_from (i + 1) more) ≡ None → (via ≡ Queue) × (first_proxied_from (i + 1) more ≡ None)
-by_queue i Queue more none = (refl, none)
-by_queue i Proxy more none = cc
-
-each_by_queue : (i : ℕ) (links : List Link) → first_proxied_from i links ≡ None → AllByRecursion (λ (link : Link). link.via ≡ Queue) links
-each_by_queue i [] none = tt
-each_by_queue i (link ∷ more) none =
-    let both : (link.via ≡ Queue) × (first_proxied_from (i + 1) more ≡ None) = by_queue i link.via more none in
-    (both.0, each_by_queue (i + 1) more both.1)
-
-pub all_by_queues : (links : List Link) → first_proxied_from 0 links ≡ None → All (λ (link : Link). link.via ≡ Queue) links
-all_by_queues links none = All-from_recursion (λ (link : Link). link.via ≡ Queue) links (each_by_queue 0 links none)

@@ -10,12 +10,10 @@ use Rattle.topology_file.specs.Reading.{IsTopologyText}
 use Rattle.device_set.specs.Images.{image_names}
 use Rattle.cosim_cmd.specs.declared.refusal.Fault.{Fault}
 use Rattle.cosim_cmd.specs.declared.refusal.Fault.TheVariants as fault
-use Rattle.cosim_cmd.specs.declared.refusal.ModelBad.{ModelBad}
-use Rattle.cosim_cmd.specs.declared.refusal.ModelBad.TheVariants as model
 use Rattle.cosim_cmd.specs.declared.refusal.OutputBad.{OutputBad}
 use Rattle.cosim_cmd.specs.declared.refusal.OutputBad.TheVariants as bad
 use Rattle.cosim_cmd.specs.Lines.{file_line}
-use Rattle.cosim_cmd.specs.Refusals.{IsFault, unread_of, of_image, unread_image, of_model}
+use Rattle.cosim_cmd.specs.Refusals.{IsFault, unread_of, too_long_of}
 use Rattle.cosim_cmd.specs.declared.words.Sentence.{Sentence as Read}
 use Rattle.cosim_cmd.specs.Said.{said}
 use Rattle.cosim_cmd.specs.Check.{IsChecked}
@@ -24,9 +22,8 @@ use Rattle.cosim_cmd.specs.Sentence.{Text, Sentence, Check, Model, Serial, Repla
 use Rattle.cosim_cmd.specs.Inputs.{Inputs, AreFurther, AreImages, AreImagesAnd, AsksNothing, AsksFor, AsksAtMost, AsksBeginning, AsksIfAny, IsReadAs, IsUnreadAs, AreTold, AreRead, OfRead, IsOneUnread, AsksAtMostInOrder, last_of}
 use Rattle.cosim_cmd.specs.Model.{IsModelled, IsLogged, IsTooLong, IsModelBad}
 use Rattle.cosim_cmd.specs.Replay.{IsReplay, IsReplayBad}
-use Rattle.cosim_cmd.specs.Serial.{IsSerialBad}
-use Rattle.cosim_cmd.specs.Outputs.{IsOutput, LacksStep}
-use Rattle.cosim_cmd.specs.Local.{OfRest, OfInputs, Lacks, AsksFurther, IsOutputBad}
+use Rattle.cosim_cmd.specs.Outputs.{IsOutput, LacksTopology, LacksHostRoom, LacksStep, LacksProgram}
+use Rattle.cosim_cmd.specs.Local.{OfRest, OfPrograms, OfInputs, OfFile, OfSystem, Lacks, AsksFurther, IsOutputBad}
 
 -- names asked for, and then others
 asked_on : (names more : List Text) (a b c : Option (List Text)) → b ≡ option_map (λ earlier. earlier ++ names) a → c ≡ option_map (λ earlier. earlier ++ more) b → c ≡ option_map (λ earlier. earlier ++ (names ++ more)) a
@@ -104,6 +101,22 @@ module _ (s : Sentence) (before mid after : FilesSeen) (bytes : List ℕ) (kept 
   read_alone : AsksNothing mid after → IsReadAs (file_of s) before after bytes
   read_alone same = record { asked = AsksFor-still (file_of s ∷ []) before mid after read.asked same; told = read.told }
 
+  pub of_file : (P : List ℕ → Type 0) → P bytes → AsksNothing mid after → OfFile s before after P
+  of_file P fact same = record { bytes = bytes; read = read_alone same; fact = fact }
+
+  pub of_system : (P : List ℕ → List (List ℕ) → Type 0) → OfPrograms (record { sentence = s; bytes = bytes }) mid after (P bytes) → OfSystem s before after P
+  of_system P of = record {
+    bytes = bytes;
+    names = of.names;
+    are_images = of.are_names;
+    images = of.contents;
+    read = record {
+      asked = AsksFor-more (file_of s ∷ []) of.names before mid after read.asked of.read.asked;
+      told = (read.told, AreTold-along before mid kept of.names of.contents of.read.told);
+    };
+    fact = of.fact;
+  }
+
   pub of_inputs : (P : Inputs → Type 0) → OfRest (record { sentence = s; bytes = bytes }) mid after P → OfInputs s before after P
   of_inputs P rest = record {
     inputs = record { text = bytes; more = rest.contents };
@@ -131,21 +144,11 @@ module _ (s : Sentence) (before mid after : FilesSeen) (bytes : List ℕ) (kept 
         failed = subst (λ n. Rose n after.faults) no_fault one.failed;
         named = one.named ∙ ap file_line (sym (last_of-push (file_of s) one.earlier one.name));
       }
-  lacks (bad.Topology line) lacking = record { bytes = bytes; read = read_alone lacking.1; fact = lacking.0 }
-  lacks (bad.NotBuilt line) lacking = record { bytes = bytes; read = read_alone lacking.1; fact = lacking.0 }
-  lacks (bad.Image line) lacking = record {
-    bytes = bytes;
-    names = lacking.names;
-    are_images = lacking.are_names;
-    images = lacking.contents;
-    read = record {
-      asked = AsksFor-more (file_of s ∷ []) lacking.names before mid after read.asked lacking.read.asked;
-      told = (read.told, AreTold-along before mid kept lacking.names lacking.contents lacking.read.told);
-    };
-    fact = lacking.fact;
-  }
+  lacks (bad.Topology line) lacking = of_file (λ bytes. LacksTopology s bytes line) lacking.0 lacking.1
+  lacks (bad.NotBuilt line) lacking = absurd lacking
+  lacks (bad.Image line) lacking = of_system (λ bytes images. LacksHostRoom s bytes images line) lacking
   lacks (bad.Schedule line) lacking = of_inputs (λ inputs. LacksStep s inputs line) lacking
-  lacks (bad.Asm line) lacking = record { bytes = bytes; read = read_alone lacking.1; fact = lacking.0 }
+  lacks (bad.Asm line) lacking = of_file (λ bytes. LacksProgram s bytes line) lacking.0 lacking.1
 
   pub asks : AsksFurther (record { sentence = s; bytes = bytes }) mid after → AsksAtMostInOrder s before after
   asks (inl none) = inr (record { more = []; next = inl refl; asked = AsksFor-still (file_of s ∷ []) before mid after read.asked none })
@@ -178,19 +181,22 @@ pub asm_made : (r : Read) (bytes : List ℕ) (seen : FilesSeen) (text : List ℕ
 asm_made r bytes seen text file is fact =
     subst (λ s. OfRest (record { sentence = s; bytes = bytes }) seen seen (λ inputs. IsOutput s inputs text)) (sym is) (alone (Asm file) bytes seen (λ inputs. IsOutput (Asm file) inputs text) refl fact)
 
+-- `model`, and `serial` too
 module _ (file : Text) (stats : Bool) (bytes : List ℕ) (before after : FilesSeen) where
-  pub model_lacks : (bad : ModelBad) → IsModelBad bytes before after bad → Lacks (record { sentence = Model file stats; bytes = bytes }) before after (of_model bad)
-  model_lacks model.NoMemory why = tt
-  model_lacks (model.Topology line) why = why
-  model_lacks (model.File line) why = why
-  model_lacks (model.Image line) why = why
+  pub model_lacks : (bad : OutputBad) → IsModelBad bytes before after bad → Lacks (record { sentence = Model file stats; bytes = bytes }) before after bad
+  model_lacks bad.NoMemory why = tt
+  model_lacks (bad.File line) why = why
+  model_lacks (bad.Topology line) why = why
+  model_lacks (bad.NotBuilt line) why = absurd why
+  model_lacks (bad.Image line) why = why
+  model_lacks (bad.Schedule line) why = absurd why
+  model_lacks (bad.Asm line) why = absurd why
 
-module _ (file : Text) (stats : Bool) (bytes : List ℕ) (before after : FilesSeen) where
-  pub serial_lacks : (bad : OutputBad) → IsSerialBad bytes before after bad → Lacks (record { sentence = Serial file stats; bytes = bytes }) before after bad
+  pub serial_lacks : (bad : OutputBad) → IsModelBad bytes before after bad → Lacks (record { sentence = Serial file stats; bytes = bytes }) before after bad
   serial_lacks bad.NoMemory why = tt
   serial_lacks (bad.File line) why = why
   serial_lacks (bad.Topology line) why = why
-  serial_lacks (bad.NotBuilt line) why = why
+  serial_lacks (bad.NotBuilt line) why = absurd why
   serial_lacks (bad.Image line) why = why
   serial_lacks (bad.Schedule line) why = absurd why
   serial_lacks (bad.Asm line) why = absurd why
@@ -200,7 +206,7 @@ module _ (file schedule : Text) (bytes : List ℕ) (before after : FilesSeen) wh
   replay_lacks bad.NoMemory why = tt
   replay_lacks (bad.File line) why = why
   replay_lacks (bad.Topology line) why = why
-  replay_lacks (bad.NotBuilt line) why = why
+  replay_lacks (bad.NotBuilt line) why = absurd why
   replay_lacks (bad.Image line) why = why
   replay_lacks (bad.Schedule line) why = why
   replay_lacks (bad.Asm line) why = absurd why
@@ -220,7 +226,7 @@ module _ (bytes : List ℕ) (t : Topology) (spelled : IsTopologyText bytes t) (n
     fact = record { topology = t; spelled = spelled; fact = logged };
   }
 
-  pub images_long : (images : List (List ℕ)) → AreRead names before after images → (fault : Fault) → IsFault (IsTooLong t images) fault → IsModelBad bytes before after (of_image fault)
+  pub images_long : (images : List (List ℕ)) → AreRead names before after images → (fault : Fault) → IsFault (IsTooLong t images) fault → IsModelBad bytes before after (too_long_of fault)
   images_long images read (fault.Line line) is = record {
     names = names;
     are_names = images_named;
@@ -230,7 +236,7 @@ module _ (bytes : List ℕ) (t : Topology) (spelled : IsTopologyText bytes t) (n
   }
   images_long images read fault.NoMemory is = tt
 
-  pub images_unread : (fault : Fault) → IsFault (IsOneUnread names before after) fault → IsModelBad bytes before after (unread_image fault)
+  pub images_unread : (fault : Fault) → IsFault (IsOneUnread names before after) fault → IsModelBad bytes before after (unread_of fault)
   images_unread (fault.Line line) is = record { names = names; are_names = images_named; unread = is }
   images_unread fault.NoMemory is = tt
 

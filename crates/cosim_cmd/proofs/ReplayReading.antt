@@ -3,7 +3,7 @@ use Rattle.std.proofs.Common.{ℕ, ◌≡◌, List, [], ◌∷◌, ◌++◌, Non
 use Rattle.cs_base.specs.Outside.{FilesSeen}
 use Rattle.device_set.specs.declared.any_device.AnyDevice.{AnyDevice}
 use Rattle.device_set.specs.Images.{image_names}
-use Rattle.device_set.specs.Starts.{starts_of}
+use Rattle.device_set.specs.Starts.{starts_of, too_long}
 use Rattle.topology_file.specs.declared.topology.Topology.{Topology}
 use Rattle.topology_file.specs.Reading.{IsTopologyText}
 use Rattle.cosim_cmd.specs.declared.refusal.Fault.{Fault}
@@ -14,7 +14,7 @@ use Rattle.cosim_cmd.specs.Sentence.{Text}
 use Rattle.cosim_cmd.specs.Inputs.{AreImagesAnd, AsksNothing, AsksFor, AsksAtMost, AsksBeginning, AsksIfAny, IsBeginning, IsReadAs, IsUnreadAs, AreRead, OfOneRead, OfRead, IsOneUnread}
 use Rattle.cosim_cmd.specs.Model.{IsTooLong}
 use Rattle.cosim_cmd.specs.Refusals.{IsFault, unread_of, too_long_of, unplayed_of}
-use Rattle.cosim_cmd.specs.Replay.{first_proxied, IsStepped, IsUnplayed, IsServed, Replays, IsFaulty, WithSchedule, IsReplay, IsScheduleBad, IsSystemBad, IsReplayBad, AreForReplay}
+use Rattle.cosim_cmd.specs.Replay.{IsStepped, IsUnplayed, Replays, IsFaulty, WithSchedule, IsReplay, IsScheduleBad, IsSystemBad, IsReplayBad, AreForReplay}
 use Rattle.cosim_cmd.proofs.Reading.{AsksFor-more, AreTold-push, IsTold-along, unread_next, asks_one_more}
 
 -- ---- the schedule alone
@@ -70,7 +70,7 @@ module _ (t : Topology) (name : Text) (before mid : FilesSeen) where
     program_long (fault.Line line) is = record { names = hosts; are_names = refl; contents = images; read = read; fact = is }
     program_long fault.NoMemory is = tt
 
-    module _ (after : FilesSeen) (kept : mid.held ≡ before.held) (no_fault : mid.faults ≡ before.faults) (served : IsServed t images) (devices : List AnyDevice) (starts : devices ≡ starts_of t.components images) where
+    module _ (after : FilesSeen) (kept : mid.held ≡ before.held) (no_fault : mid.faults ≡ before.faults) (fit : too_long t images ≡ None) (devices : List AnyDevice) (starts : devices ≡ starts_of t.components images) where
       both_read : (P : List (List ℕ) → List ℕ → Type 0) → OfOneRead name mid after (λ schedule. P images schedule) → OfRead (AreForReplay t name) before after (λ contents. WithSchedule contents P)
       both_read P of = record {
         names = all;
@@ -87,7 +87,7 @@ module _ (t : Topology) (name : Text) (before mid : FilesSeen) where
       both_written text of = both_read (λ images schedule. Replays t images schedule text) (record {
         bytes = of.bytes;
         read = of.read;
-        fact = (served, subst (λ devices. IsStepped t devices of.bytes text) starts of.fact);
+        fact = (fit, subst (λ devices. IsStepped t devices of.bytes text) starts of.fact);
       })
 
       pub both_bad : (bad : OutputBad) → IsScheduleBad t devices name mid after bad → IsSystemBad t name before after bad
@@ -103,7 +103,7 @@ module _ (t : Topology) (name : Text) (before mid : FilesSeen) where
       both_bad (bad.Schedule line) why = both_read (λ images schedule. IsFaulty t images schedule line) (record {
         bytes = why.bytes;
         read = why.read;
-        fact = (served, subst (λ devices. IsUnplayed t devices why.bytes line) starts why.fact);
+        fact = (fit, subst (λ devices. IsUnplayed t devices why.bytes line) starts why.fact);
       })
       both_bad (bad.Asm line) why = absurd why
 
@@ -116,7 +116,7 @@ module _ (t : Topology) (name : Text) (before mid : FilesSeen) where
 
 -- ---- of a topology text
 
-module _ (bytes : List ℕ) (t : Topology) (spelled : IsTopologyText bytes t) (by_queues : first_proxied t ≡ None) (name : Text) (before after : FilesSeen) where
+module _ (bytes : List ℕ) (t : Topology) (spelled : IsTopologyText bytes t) (name : Text) (before after : FilesSeen) where
   are_further : (names : List Text) → AreForReplay t name names → AreImagesAnd bytes name names
   are_further names are = record { images = image_names t.components; are_images = record { topology = t; spelled = spelled; are_images = refl }; behind = are }
 
@@ -139,7 +139,7 @@ module _ (bytes : List ℕ) (t : Topology) (spelled : IsTopologyText bytes t) (b
     are_names = record { topology = t; spelled = spelled; are_images = why.are_names };
     contents = why.contents;
     read = why.read;
-    fact = record { topology = t; spelled = spelled; fact = (by_queues, why.fact) };
+    fact = record { topology = t; spelled = spelled; fact = why.fact };
   }
   text_bad (bad.Schedule line) why = record {
     names = why.names;

@@ -5,7 +5,8 @@ use Rattle.cs_base.specs.Outside.{FilesSeen, IsTold, Rose}
 use Rattle.topology_file.specs.declared.topology.Topology.{Topology}
 use Rattle.topology_file.specs.Reading.{IsTopologyText}
 use Rattle.device_set.specs.Images.{image_names}
-use Rattle.cosim_cmd.specs.Sentence.{Text, Sentence, Check, Model, Serial, Replay, Asm, sentence_of, file_of}
+use Rattle.cosim_cmd.specs.Sentence.{Text, Sentence, Check, Model, Serial, Replay, Asm, file_of}
+use Rattle.cosim_cmd.specs.Request.{Request, OnFiles, Load, request_of}
 use Rattle.cosim_cmd.specs.Lines.{file_line}
 
 -- the bytes of the command's file, and of the files that it reads after that one, in order
@@ -33,11 +34,11 @@ AreFurther (Serial file stats) bytes names = AreImages bytes names
 AreFurther (Replay file schedule) bytes names = AreImagesAnd bytes schedule names
 AreFurther (Asm file) bytes names = names ≡ []
 
--- the words are a sentence, and of it a fact holds
-pub record OfSentence (words : List Text) (P : Sentence → Type 0) : Type 0 where
-  pub sentence : Sentence
-  pub said : sentence_of words ≡ Some sentence
-  pub fact : P sentence
+-- the words ask for something, and of that a fact holds
+pub record OfRequest (words : List Text) (P : Request → Type 0) : Type 0 where
+  pub request : Request
+  pub asked : request_of words ≡ Some request
+  pub fact : P request
 
 -- ---- names, asked for in order
 
@@ -140,9 +141,17 @@ pub record AsksInOrder (s : Sentence) (before after : FilesSeen) : Type 0 where
 abbrev pub AsksAtMostInOrder : Sentence → FilesSeen → FilesSeen → Type 0
 AsksAtMostInOrder s before after = AsksNothing before after ⊎ AsksInOrder s before after
 
--- nothing was asked for, or the words are a sentence whose files were asked for in order, so many as were
+-- the files of a command were asked for in order, so many as were; `load` asks for none
+abbrev pub AsksOf : Request → FilesSeen → FilesSeen → Type 0
+AsksOf (OnFiles s) before after = AsksInOrder s before after
+AsksOf (Load stations text) before after = AsksNothing before after
+
+abbrev pub AsksAtMostOf : Request → FilesSeen → FilesSeen → Type 0
+AsksAtMostOf request before after = AsksNothing before after ⊎ AsksOf request before after
+
+-- nothing was asked for, or what the words ask for
 abbrev pub AsksForFiles : List Text → FilesSeen → FilesSeen → Type 0
-AsksForFiles words before after = AsksNothing before after ⊎ OfSentence words (λ s. AsksInOrder s before after)
+AsksForFiles words before after = AsksNothing before after ⊎ OfRequest words (λ request. AsksOf request before after)
 
 -- all files of the command were read, in order
 pub record HasRead (s : Sentence) (before after : FilesSeen) (inputs : Inputs) : Type 0 where

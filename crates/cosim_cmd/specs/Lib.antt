@@ -1,4 +1,5 @@
 pub mod Sentence
+pub mod Request
 pub mod Said
 pub mod Lines
 pub mod Written
@@ -6,9 +7,13 @@ pub mod NoTopology
 pub mod Check
 pub mod Model
 pub mod Replay
-pub mod Serial
 pub mod Asm
+pub mod Load
 pub mod Refusals
 pub mod Inputs
 pub mod Outputs
 pub mod Local
+pub mod Outcomes
+pub mod RunWords
+pub mod Proxied
+pub mod Threads

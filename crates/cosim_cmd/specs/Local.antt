@@ -6,9 +6,11 @@ use Rattle.cosim_cmd.specs.declared.refusal.OutputBad.{OutputBad}
 use Rattle.cosim_cmd.specs.declared.refusal.OutputBad.TheVariants as bad
 use Rattle.cosim_cmd.specs.declared.refusal.Refusal.{Refusal}
 use Rattle.cosim_cmd.specs.declared.refusal.Refusal.TheVariants as refused
-use Rattle.cosim_cmd.specs.Sentence.{Text, Sentence, sentence_of, file_of}
-use Rattle.cosim_cmd.specs.Inputs.{Inputs, AreImages, AreFurther, OfSentence, AsksNothing, AsksIfAny, OfOneRead, AreRead, OfRead, IsUnreadOf, HasRead, IsUnread}
-use Rattle.cosim_cmd.specs.Outputs.{IsOutput, LacksTopology, LacksService, LacksHostRoom, LacksStep, LacksProgram, Accepts}
+use Rattle.cosim_cmd.specs.Sentence.{Text, Sentence, file_of}
+use Rattle.cosim_cmd.specs.Request.{Request, OnFiles, Load, request_of}
+use Rattle.cosim_cmd.specs.Inputs.{Inputs, AreImages, AreFurther, OfRequest, AsksNothing, AsksIfAny, OfOneRead, AreRead, OfRead, IsUnreadOf, HasRead, IsUnread}
+use Rattle.cosim_cmd.specs.Outputs.{IsOutput, LacksTopology, LacksHostRoom, LacksStep, LacksProgram, Accepts}
+use Rattle.cosim_cmd.specs.Load.{IsLoaded}
 use Rattle.cosim_cmd.specs.Refusals.{status_of, line_of}
 use Rattle.cosim_cmd.specs.Written.{IsWhole, IsCut, IsAttempted}
 
@@ -35,7 +37,7 @@ abbrev pub Lacks : Task → FilesSeen → FilesSeen → OutputBad → Type 0
 Lacks task before after bad.NoMemory = ⊤
 Lacks task before after (bad.File line) = IsUnreadOf (further_of task) before after line
 Lacks task before after (bad.Topology line) = LacksTopology task.sentence task.bytes line × AsksNothing before after
-Lacks task before after (bad.NotBuilt line) = LacksService task.sentence task.bytes line × AsksNothing before after
+Lacks task before after (bad.NotBuilt line) = ⊥
 Lacks task before after (bad.Image line) = OfPrograms task before after (λ images. LacksHostRoom task.sentence task.bytes images line)
 Lacks task before after (bad.Schedule line) = OfRest task before after (λ inputs. LacksStep task.sentence inputs line)
 Lacks task before after (bad.Asm line) = LacksProgram task.sentence task.bytes line × AsksNothing before after
@@ -74,20 +76,32 @@ abbrev pub IsOutputBad : Sentence → FilesSeen → FilesSeen → OutputBad → 
 IsOutputBad s before after bad.NoMemory = ⊤
 IsOutputBad s before after (bad.File line) = IsUnread s before after line
 IsOutputBad s before after (bad.Topology line) = OfFile s before after (λ bytes. LacksTopology s bytes line)
-IsOutputBad s before after (bad.NotBuilt line) = OfFile s before after (λ bytes. LacksService s bytes line)
+IsOutputBad s before after (bad.NotBuilt line) = ⊥
 IsOutputBad s before after (bad.Image line) = OfSystem s before after (λ bytes images. LacksHostRoom s bytes images line)
 IsOutputBad s before after (bad.Schedule line) = OfInputs s before after (λ inputs. LacksStep s inputs line)
 IsOutputBad s before after (bad.Asm line) = OfFile s before after (λ bytes. LacksProgram s bytes line)
 
--- the words are a sentence, and the text is its output
+-- ---- what the words ask for
+
+-- the text is the output; for `load` that of its number, and no file is asked for
+abbrev pub Answers : Request → FilesSeen → FilesSeen → List ℕ → Type 0
+Answers (OnFiles s) before after text = Makes s before after text
+Answers (Load stations as_text) before after text = IsLoaded stations as_text text × AsksNothing before after
+
+-- why there is no output; for `load` want of memory alone
+abbrev pub IsAnswerBad : Request → FilesSeen → FilesSeen → OutputBad → Type 0
+IsAnswerBad (OnFiles s) before after why = IsOutputBad s before after why
+IsAnswerBad (Load stations as_text) before after why = why ≡ bad.NoMemory
+
+-- the text is the output that the words ask for
 abbrev pub IsOutputOf : List Text → FilesSeen → FilesSeen → List ℕ → Type 0
-IsOutputOf words before after text = OfSentence words (λ s. Makes s before after text)
+IsOutputOf words before after text = OfRequest words (λ request. Answers request before after text)
 
 -- why a command is refused
 abbrev pub IsRefusal : List Text → FilesSeen → FilesSeen → Refusal → Type 0
 IsRefusal words before after refused.NoMemory = ⊤
-IsRefusal words before after refused.Usage = sentence_of words ≡ None
-IsRefusal words before after (refused.NoOutput bad) = OfSentence words (λ s. IsOutputBad s before after bad)
+IsRefusal words before after refused.Usage = request_of words ≡ None
+IsRefusal words before after (refused.NoOutput bad) = OfRequest words (λ request. IsAnswerBad request before after bad)
 IsRefusal words before after refused.Out = (text : List ℕ) × IsOutputOf words before after text
 
 -- a text of which a fact holds was written whole, or in part
@@ -108,16 +122,23 @@ pub record Says (status : ℕ) (before after : SinkSeen) (P : Refusal → Type 0
   pub fact : P refusal
   pub said : IsAttempted before after (line_of refusal)
 
--- the words are a sentence, and its files are told to hold what its command can take
-pub record IsAccepted (words : List Text) (held : Text → Option (List ℕ)) : Type 0 where
-  pub sentence : Sentence
-  pub said : sentence_of words ≡ Some sentence
+-- the files of a command are told to hold what it can take
+pub record CanTake (s : Sentence) (held : Text → Option (List ℕ)) : Type 0 where
   pub inputs : Inputs
-  pub told : held (file_of sentence) ≡ Some inputs.text
+  pub told : held (file_of s) ≡ Some inputs.text
   pub names : List Text
-  pub are_further : AreFurther sentence inputs.text names
+  pub are_further : AreFurther s inputs.text names
   pub more_told : AllZip (λ name bytes. held name ≡ Some bytes) names inputs.more
-  pub accepted : Accepts sentence inputs
+  pub accepted : Accepts s inputs
+
+-- `load` needs no file
+abbrev pub CanAnswer : Request → (Text → Option (List ℕ)) → Type 0
+CanAnswer (OnFiles s) held = CanTake s held
+CanAnswer (Load stations as_text) held = ⊤
+
+-- the words ask for what can be answered
+abbrev pub IsAccepted : List Text → (Text → Option (List ℕ)) → Type 0
+IsAccepted words held = OfRequest words (λ request. CanAnswer request held)
 
 -- a count of faults didn't rise
 abbrev pub Stays : ℕ → ℕ → Type 0

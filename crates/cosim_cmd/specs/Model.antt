@@ -1,4 +1,4 @@
--- What `model` writes: the joined log of the global run of the topology that the file spells, and its statistics.
+-- What `model` and `serial` write: the joined log of the global run of the topology that the file spells, and its statistics.
 use Rattle.std.specs.Prelude.{ℕ, ◌≡◌, ◌++◌, if◌then◌else◌, Bool, List, slice_get, None, Some, ⊤}
 use Rattle.cs_base.specs.Outside.{FilesSeen}
 use Rattle.device_api.specs.World.{Network, global_until, logs_of}
@@ -15,8 +15,8 @@ use Rattle.device_set.specs.Starts.{starts_of, too_long, AreStarted}
 use Rattle.cosim_cmd.specs.Inputs.{AreImages, AsksNothing, OfRead, IsUnreadOf}
 use Rattle.cosim_cmd.specs.Lines.{image_line}
 use Rattle.cosim_cmd.specs.NoTopology.{IsNoTopology}
-use Rattle.cosim_cmd.specs.declared.refusal.ModelBad.{ModelBad}
-use Rattle.cosim_cmd.specs.declared.refusal.ModelBad.TheVariants as bad
+use Rattle.cosim_cmd.specs.declared.refusal.OutputBad.{OutputBad}
+use Rattle.cosim_cmd.specs.declared.refusal.OutputBad.TheVariants as bad
 
 -- devices and the links between them
 abbrev pub network_of : Topology → List AnyDevice → Network AnyDevice
@@ -72,8 +72,11 @@ LacksRoom bytes images line = OfTopology bytes (λ t. IsTooLong t images line)
 -- ---- with the programs of hosts, which are read after the topology
 
 -- why the system of a text can't be run
-abbrev pub IsModelBad : List ℕ → FilesSeen → FilesSeen → ModelBad → Type 0
+abbrev pub IsModelBad : List ℕ → FilesSeen → FilesSeen → OutputBad → Type 0
 IsModelBad bytes before after bad.NoMemory = ⊤
 IsModelBad bytes before after (bad.Topology line) = IsNoTopology bytes line × AsksNothing before after
 IsModelBad bytes before after (bad.File line) = IsUnreadOf (AreImages bytes) before after line
 IsModelBad bytes before after (bad.Image line) = OfRead (AreImages bytes) before after (λ images. LacksRoom bytes images line)
+IsModelBad bytes before after (bad.NotBuilt line) = ⊥
+IsModelBad bytes before after (bad.Schedule line) = ⊥
+IsModelBad bytes before after (bad.Asm line) = ⊥

@@ -4,8 +4,6 @@ use Rattle.cosim_cmd.specs.declared.refusal.Fault.{Fault}
 use Rattle.cosim_cmd.specs.declared.refusal.Fault.TheVariants as fault
 use Rattle.cosim_cmd.specs.declared.refusal.OutputBad.{OutputBad}
 use Rattle.cosim_cmd.specs.declared.refusal.OutputBad.TheVariants as bad
-use Rattle.cosim_cmd.specs.declared.refusal.ModelBad.{ModelBad}
-use Rattle.cosim_cmd.specs.declared.refusal.ModelBad.TheVariants as model
 use Rattle.cosim_cmd.specs.declared.refusal.Refusal.{Refusal}
 use Rattle.cosim_cmd.specs.declared.refusal.Refusal.TheVariants as refused
 use Rattle.cosim_cmd.specs.Lines.{memory_line, usage_line, out_line}
@@ -60,18 +58,3 @@ too_long_of fault.NoMemory = bad.NoMemory
 abbrev pub unplayed_of : Fault → OutputBad
 unplayed_of (fault.Line line) = bad.Schedule line
 unplayed_of fault.NoMemory = bad.NoMemory
-
-abbrev pub of_image : Fault → ModelBad
-of_image (fault.Line line) = model.Image line
-of_image fault.NoMemory = model.NoMemory
-
-abbrev pub unread_image : Fault → ModelBad
-unread_image (fault.Line line) = model.File line
-unread_image fault.NoMemory = model.NoMemory
-
--- why `model` has no output
-abbrev pub of_model : ModelBad → OutputBad
-of_model model.NoMemory = bad.NoMemory
-of_model (model.Topology line) = bad.Topology line
-of_model (model.File line) = bad.File line
-of_model (model.Image line) = bad.Image line

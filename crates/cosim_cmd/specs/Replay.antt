@@ -1,9 +1,6 @@
 -- What `replay` writes: how far a topology's devices have come after the steps of a schedule.
-use Rattle.std.specs.Prelude.{ℕ, ◌≡◌, ◌+◌, ◌↔◌, ◌∷◌, [], ◌++◌, if◌then◌else◌, Bool, true, false, IsTrue, List, Option, None, Some, ⊤}
+use Rattle.std.specs.Prelude.{ℕ, ◌≡◌, ◌↔◌, ◌∷◌, [], ◌++◌, Bool, IsTrue, List, None, ⊤}
 use Rattle.cs_base.specs.Outside.{FilesSeen}
-use Rattle.cs_base.specs.declared.link.Link.{Link}
-use Rattle.cs_base.specs.declared.port_kind.Via.{Via}
-use Rattle.cs_base.specs.declared.port_kind.Via.TheVariants.{Queue, Proxy}
 use Rattle.device_api.specs.Joined.{joined_until}
 use Rattle.device_set.specs.declared.any_device.AnyDevice.{AnyDevice}
 use Rattle.device_set.specs.AnyKind.{any_device}
@@ -18,34 +15,11 @@ use Rattle.topology_file.specs.declared.topology.Topology.{Topology}
 use Rattle.topology_file.specs.Ports.{names_of}
 use Rattle.cosim_cmd.specs.Sentence.{Text}
 use Rattle.cosim_cmd.specs.Inputs.{AreImages, AreImagesAnd, AsksNothing, IsUnreadAs, OfOneRead, OfRead, IsUnreadOf}
-use Rattle.cosim_cmd.specs.Lines.{not_built_line, schedule_line}
-use Rattle.cosim_cmd.specs.Model.{OfTopology, IsTooLong}
+use Rattle.cosim_cmd.specs.Lines.{schedule_line}
+use Rattle.cosim_cmd.specs.Model.{OfTopology, IsTooLong, LacksRoom}
 use Rattle.cosim_cmd.specs.NoTopology.{IsNoTopology}
 use Rattle.cosim_cmd.specs.declared.refusal.OutputBad.{OutputBad}
 use Rattle.cosim_cmd.specs.declared.refusal.OutputBad.TheVariants as bad
-
--- ---- links by proxy, which no schedule moves yet
-
-abbrev pub is_proxied : Via → Bool
-is_proxied Queue = false
-is_proxied Proxy = true
-
--- the number of the first link by proxy, where the first of the list has number i
-abbrev pub first_proxied_from : ℕ → List Link → Option ℕ
-first_proxied_from i [] = None
-first_proxied_from i (link ∷ more) = if is_proxied link.via then Some i else first_proxied_from (i + 1) more
-
-abbrev pub first_proxied : Topology → Option ℕ
-first_proxied t = first_proxied_from 0 t.wiring.links
-
--- the line names the first link by proxy
-pub record IsUnserved (t : Topology) (line : List ℕ) : Type 0 where
-  pub number : ℕ
-  pub first : first_proxied t ≡ Some number
-  pub named : line ≡ not_built_line number
-
-abbrev pub IsNotBuilt : List ℕ → List ℕ → Type 0
-IsNotBuilt bytes line = OfTopology bytes (λ t. IsUnserved t line)
 
 -- ---- what is written of a mesh
 
@@ -71,16 +45,12 @@ pub record IsUnplayed (t : Topology) (devices : List AnyDevice) (schedule line :
 
 -- ---- a topology, the programs of its hosts, and a schedule
 
--- the links go by queues, and the programs fit their hosts
-pub record IsServed (t : Topology) (images : List (List ℕ)) : Type 0 where
-  pub by_queues : first_proxied t ≡ None
-  pub fit : too_long t images ≡ None
-
+-- the programs fit their hosts, and the schedule is one of enabled steps, or has a first line at fault
 abbrev pub Replays : Topology → List (List ℕ) → List ℕ → List ℕ → Type 0
-Replays t images schedule text = IsServed t images × IsStepped t (starts_of t.components images) schedule text
+Replays t images schedule text = (too_long t images ≡ None) × IsStepped t (starts_of t.components images) schedule text
 
 abbrev pub IsFaulty : Topology → List (List ℕ) → List ℕ → List ℕ → Type 0
-IsFaulty t images schedule line = IsServed t images × IsUnplayed t (starts_of t.components images) schedule line
+IsFaulty t images schedule line = (too_long t images ≡ None) × IsUnplayed t (starts_of t.components images) schedule line
 
 -- the schedule is the last of these contents, and the others are the programs
 pub record WithSchedule (contents : List (List ℕ)) (P : List (List ℕ) → List ℕ → Type 0) : Type 0 where
@@ -99,13 +69,9 @@ IsReplay bytes contents text = WithSchedule contents (λ images schedule. OfTopo
 abbrev pub IsScheduleRefused : List ℕ → List (List ℕ) → List ℕ → Type 0
 IsScheduleRefused bytes contents line = WithSchedule contents (λ images schedule. OfTopology bytes (λ t. IsFaulty t images schedule line))
 
--- the links go by queues, and a program is too long
-abbrev pub LacksRoomOnQueues : List ℕ → List (List ℕ) → List ℕ → Type 0
-LacksRoomOnQueues bytes images line = OfTopology bytes (λ t. (first_proxied t ≡ None) × IsTooLong t images line)
-
--- each line is a step that is enabled in its turn
+-- the programs fit their hosts, and each line is a step that is enabled in its turn
 abbrev pub CanStep : Topology → List (List ℕ) → List ℕ → Type 0
-CanStep t images schedule = IsServed t images × (mesh : State AnyDevice) × IsReplayed any_device schedule (start_of any_device (starts_of t.components images) t.wiring) mesh
+CanStep t images schedule = (too_long t images ≡ None) × (mesh : State AnyDevice) × IsReplayed any_device schedule (start_of any_device (starts_of t.components images) t.wiring) mesh
 
 abbrev pub CanReplay : List ℕ → List (List ℕ) → Type 0
 CanReplay bytes contents = WithSchedule contents (λ images schedule. OfTopology bytes (λ t. CanStep t images schedule))
@@ -126,7 +92,7 @@ AreOfHosts t names = names ≡ image_names t.components
 abbrev pub AreForReplay : Topology → Text → List Text → Type 0
 AreForReplay t name names = names ≡ image_names t.components ++ name ∷ []
 
--- nor on a topology whose links go by queues
+-- nor on a topology
 abbrev pub IsSystemBad : Topology → Text → FilesSeen → FilesSeen → OutputBad → Type 0
 IsSystemBad t name before after bad.NoMemory = ⊤
 IsSystemBad t name before after (bad.File line) = IsUnreadOf (AreForReplay t name) before after line
@@ -138,8 +104,8 @@ IsSystemBad t name before after _ = ⊥
 abbrev pub IsReplayBad : List ℕ → Text → FilesSeen → FilesSeen → OutputBad → Type 0
 IsReplayBad bytes name before after bad.NoMemory = ⊤
 IsReplayBad bytes name before after (bad.Topology line) = IsNoTopology bytes line × AsksNothing before after
-IsReplayBad bytes name before after (bad.NotBuilt line) = IsNotBuilt bytes line × AsksNothing before after
 IsReplayBad bytes name before after (bad.File line) = IsUnreadOf (AreImagesAnd bytes name) before after line
-IsReplayBad bytes name before after (bad.Image line) = OfRead (AreImages bytes) before after (λ images. LacksRoomOnQueues bytes images line)
+IsReplayBad bytes name before after (bad.Image line) = OfRead (AreImages bytes) before after (λ images. LacksRoom bytes images line)
 IsReplayBad bytes name before after (bad.Schedule line) = OfRead (AreImagesAnd bytes name) before after (λ contents. IsScheduleRefused bytes contents line)
+IsReplayBad bytes name before after (bad.NotBuilt line) = ⊥
 IsReplayBad bytes name before after (bad.Asm line) = ⊥

@@ -75,9 +75,9 @@ both None b = None
 both (Some a) None = None
 both (Some a) (Some b) = Some (a, b)
 
--- the one positional word, and whether `--stats` is given
-abbrev pub file_and_stats : List Text → Option (Text × Bool)
-file_and_stats words = both (single (operands words)) (is_given (codes "--stats") (options words))
+-- the one positional word, and whether the option is given
+abbrev pub word_and_flag : Text → List Text → Option (Text × Bool)
+word_and_flag option words = both (single (operands words)) (is_given option (options words))
 
 -- what the words say: a command and its files
 pub data Sentence : Type 0 where
@@ -100,8 +100,8 @@ abbrev pub sentence_of : List Text → Option Sentence
 sentence_of [] = None
 sentence_of (command ∷ words) =
     if bytes_eq command (codes "check") then option_map Check (file_word words)
-    else if bytes_eq command (codes "model") then option_map (λ p. Model p.0 p.1) (file_and_stats words)
-    else if bytes_eq command (codes "serial") then option_map (λ p. Serial p.0 p.1) (file_and_stats words)
+    else if bytes_eq command (codes "model") then option_map (λ p. Model p.0 p.1) (word_and_flag (codes "--stats") words)
+    else if bytes_eq command (codes "serial") then option_map (λ p. Serial p.0 p.1) (word_and_flag (codes "--stats") words)
     else if bytes_eq command (codes "replay") then option_map (λ p. Replay p.0 p.1) (file_pair words)
     else if bytes_eq command (codes "asm") then option_map Asm (file_word words)
     else None

@@ -8,15 +8,21 @@ mod line;
 mod local;
 mod model;
 mod names;
+mod outcomes;
+mod proxied;
 mod refusal;
 mod replay;
 mod report;
-mod serial;
+mod request;
+mod run_command;
+mod run_words;
+mod threads;
 mod topology_text;
 mod words;
 mod write;
 
 pub use local::cosim_local;
+pub use run_command::cosim_run;
 
 #[cfg(test)]
 mod tests;

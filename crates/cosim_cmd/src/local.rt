@@ -1,36 +1,26 @@
 //! The commands that wait for nobody.
 ghost use Rattle.std.specs.Prelude.{◌≡◌, ◌≢◌, ◌↔◌, ◌⊎◌, IfOk, IfErr, OnOk, None};
-ghost use Rattle.cosim_cmd.specs.Sentence.{texts, sentence_of};
-ghost use Rattle.cosim_cmd.specs.Said.{said};
-ghost use Rattle.cosim_cmd.specs.Inputs.{AsksForFiles, AsksAtMostInOrder};
+ghost use Rattle.cosim_cmd.specs.Sentence.{texts};
+ghost use Rattle.cosim_cmd.specs.Request.{IsStationCount, HasStations, request_of};
+ghost use Rattle.cosim_cmd.specs.Said.{said, requested};
+ghost use Rattle.cosim_cmd.specs.Inputs.{AsksForFiles, AsksAtMostInOrder, AsksAtMostOf};
+ghost use Rattle.cosim_cmd.specs.Load.{IsLoaded};
 ghost use Rattle.cosim_cmd.specs.Outputs.{IsOutput};
-ghost use Rattle.cosim_cmd.specs.Refusals.{of_model};
-ghost use Rattle.cosim_cmd.specs.Local.{Task, OfRest, Lacks, AsksFurther, Makes, IsOutputBad, IsOutputOf, IsRefusal, Writes, WritesInPart, Says, IsAccepted, Stays};
+ghost use Rattle.cosim_cmd.specs.Local.{Task, OfRest, Lacks, AsksFurther, Makes, IsOutputBad, Answers, IsAnswerBad, IsOutputOf, IsRefusal, Writes, WritesInPart, Says, IsAccepted, Stays};
 
 use crate::asm::assembled;
 use crate::check::printed;
 use crate::input::content;
-use crate::model::modelled;
-use crate::refusal::{Fault, ModelBad, OutputBad, Refusal, unread};
+use crate::model::{Clocks, modelled};
+use crate::refusal::{Fault, OutputBad, Refusal, unread};
 use crate::replay::replayed;
 use crate::report::report;
-use crate::serial::stepped_to_the_end;
+use crate::request::Request;
 use crate::words::Sentence;
 use crate::write::write_all;
-use cs_base::{Failed, Files, Octets, Sink};
+use cs_base::{Failed, Files, NoMemory, Octets, Sink};
+use load_run::{load_summary, load_text};
 use std::alloc::Global;
-
-/// The refusal for what `model` can't run.
-fn of_model(bad: ModelBad) -> OutputBad
-    ensures { result ≡ of_model bad }
-{
-    match bad {
-        ModelBad::NoMemory => OutputBad::NoMemory,
-        ModelBad::Topology(line) => OutputBad::Topology(line),
-        ModelBad::File(line) => OutputBad::File(line),
-        ModelBad::Image(line) => OutputBad::Image(line),
-    }
-}
 
 /// The output for a sentence, where these are the bytes of its file.
 fn made<F: Files>(
@@ -54,11 +44,8 @@ fn made<F: Files>(
             Err(Fault::Line(line)) => Err(OutputBad::Topology(line)),
             Err(Fault::NoMemory) => Err(OutputBad::NoMemory),
         },
-        Sentence::Model { stats, .. } => match modelled(alloc, *stats, bytes, files) {
-            Ok(text) => Ok(text),
-            Err(bad) => Err(of_model(bad)),
-        },
-        Sentence::Serial { stats, .. } => stepped_to_the_end(alloc, *stats, bytes, files),
+        Sentence::Model { stats, .. } => modelled(alloc, Clocks::Global, *stats, bytes, files),
+        Sentence::Serial { stats, .. } => modelled(alloc, Clocks::Local, *stats, bytes, files),
         Sentence::Replay { schedule, .. } => replayed(alloc, bytes, schedule, files),
         Sentence::Asm { .. } => match assembled(alloc, bytes) {
             Ok(text) => Ok(text),
@@ -81,6 +68,33 @@ fn output<F: Files>(alloc: Global, sentence: &Sentence, files: &mut F) -> Result
     }
 }
 
+/// The output of `load`: the system as a topology file, or the summary of its run.
+fn loaded(alloc: Global, stations: u32, as_text: bool) -> Result<Octets, NoMemory>
+    requires { IsStationCount stations }
+    ensures { IfOk result (IsLoaded stations as_text) }
+{
+    if as_text {
+        load_text(alloc, stations)
+    } else {
+        load_summary(alloc, stations)
+    }
+}
+
+/// The output that is asked for.
+fn answer<F: Files>(alloc: Global, request: &Request, files: &mut F) -> Result<Octets, OutputBad>
+    requires { HasStations (requested request.now) }
+    ensures made { IfOk result (Answers (requested request.now) (F.seen files.old) (F.seen files.new)) }
+    ensures refused { IfErr result
+        (IsAnswerBad (requested request.now) (F.seen files.old) (F.seen files.new)) }
+    ensures asked { AsksAtMostOf (requested request.now) (F.seen files.old) (F.seen files.new) }
+    ensures files_kept { (F.seen files.new).held ≡ (F.seen files.old).held }
+{
+    match request {
+        Request::OnFiles(sentence) => output(alloc, sentence, files),
+        Request::Load { stations, text } => Ok(loaded(alloc, *stations, *text)?),
+    }
+}
+
 fn run<F: Files, K: Sink>(
     alloc: Global,
     words: &[String],
@@ -96,25 +110,26 @@ fn run<F: Files, K: Sink>(
         (IsOutputOf (texts words.now) (F.seen files.old) (F.seen files.new)) }
     ensures out_kept { IfErr result (λ refusal. refusal ≢ Refusal.Out → K.seen out.new ≡ K.seen out.old) }
 {
-    let Some(sentence) = Sentence::parse(alloc, words)? else {
+    let Some(request) = Request::parse(alloc, words)? else {
         return Err(Refusal::Usage);
     };
-    let text = output(alloc, &sentence, files)?;
+    let text = answer(alloc, &request, files)?;
     match write_all(out, text.as_slice()) {
         Ok(()) => Ok(()),
         Err(Failed) => Err(Refusal::Out),
     }
 }
 
-/// Runs the command that the words say; it waits for nobody. `files` has the command's file, `out` gets the output,
+/// Runs the command that the words say; it waits for nobody. `files` has the command's files, `out` gets the output,
 /// whole or, where it fails, a part of it from the front, and `err` the line that says why a command is refused.
 /// Answers the exit status:
 ///
 /// - 0: the output stands whole in `out`.
 /// - 1: memory is wanting, `cosim: no memory`.
 /// - 2: the words are no sentence, `cosim: usage`. The sentences are `check <file>`, `model <file> [--stats]`,
-///   `serial <file> [--stats]`, `replay <file> <schedule>` and `asm <file>`. A word that begins with `-` and isn't `-` alone is an option's, which
-///   stands anywhere, and once; after a word `--` each word is positional.
+///   `serial <file> [--stats]`, `replay <file> <schedule>`, `load <n> [--text]` and `asm <file>`; n is 1 to 30 in decimal
+///   digits. A word that begins with `-` and isn't `-` alone is an option's, which stands anywhere, and once; after a
+///   word `--` each word is positional.
 /// - 3: the file can't be read, `cosim: file <name>`.
 /// - 4: the file is no topology, `cosim: topology toml` or `cosim: topology <reason> at <entry>`.
 /// - 5: the program of a host is longer than its RAM, `cosim: image <component>`.
@@ -122,14 +137,15 @@ fn run<F: Files, K: Sink>(
 /// - 10: `replay` has a schedule with a line that spells no step or one that isn't enabled in its turn,
 ///   `cosim: schedule <line>`.
 /// - 11: `asm` has a source with a fault, `cosim: asm <line> <reason>`.
-/// - 20: `serial` or `replay` has a topology with a link by proxy, `cosim: not built link <number>`.
 ///
 /// `check` writes the topology with every key of every entry, as a topology file; it needs nothing but the file.
 /// `model` writes the joined log of the run, and with `--stats` a line for each channel after it:
 /// `channel <k> <from> <to> syncs <n> sends <m>`. `serial` writes the same, by steps of components with clocks of their own,
 /// until all have ended. `replay` takes the steps of a schedule, one by one, on components with
-/// clocks of their own, and writes the joined log so far and a line, `state ended` or `state running`. `asm` writes the
-/// bytes of an assembler's source.
+/// clocks of their own, and writes the joined log so far and a line, `state ended` or `state running`. `load` reads no
+/// file: it makes a system of n stations, runs it as `model` does, and writes six lines, each a word and a number:
+/// `load`, `components`, `links`, `lines`, `syncs` and `sends`; with `--text` it writes the system as a topology file, as
+/// `check` would. `asm` writes the bytes of an assembler's source.
 ///
 /// On each status but 0 and 9 nothing is written to `out`. A failing `err` leaves the status as it is.
 pub fn cosim_local<F: Files, K: Sink, E: Sink>(
@@ -140,9 +156,9 @@ pub fn cosim_local<F: Files, K: Sink, E: Sink>(
     err: &mut E,
 ) -> u8
     // The words.
-    ensures usage { result ≢ 1 → (result ≡ 2) ↔ (sentence_of (texts words.now) ≡ None) }
+    ensures usage { result ≢ 1 → (result ≡ 2) ↔ (request_of (texts words.now) ≡ None) }
 
-    // The files: asked for in order, not at all where the words are no sentence, and left as they were.
+    // The files: asked for in order, not at all where the words are no sentence or `load`'s, and left as they were.
     ensures asked { AsksForFiles (texts words.now) (F.seen files.old) (F.seen files.new) }
     ensures files_kept { (F.seen files.new).held ≡ (F.seen files.old).held }
 

@@ -1,24 +1,21 @@
-//! The command `model`: the joined log of the global simulator, and the statistics of its run. The run on local clocks
-//! has the same text.
+//! The commands `model` and `serial`: the joined log of the global simulator, and the statistics of its run. The run on
+//! local clocks, one step at a time, has the same text.
 ghost use Rattle.std.specs.Prelude.{◌≡◌, ◌<◌, All, map, length, IfOk, IfErr};
 ghost use Rattle.global_model.specs.Runs.{HasLogsOf, HasCountsOf};
 ghost use Rattle.device_set.specs.AnyKind.{any_device, IsSettledDevice};
 ghost use Rattle.cosim_cmd.specs.Model.{run_text, AreReady, IsLogged, IsTooLong, IsHostLine, IsModelled, IsModelBad};
 ghost use Rattle.cosim_cmd.specs.Inputs.{AreImages, OfRead, AsksIfAny};
-ghost use Rattle.cosim_cmd.specs.Serial.{CanRun};
-ghost use Rattle.cosim_cmd.specs.Refusals.{IsFault, of_image, unread_image};
+ghost use Rattle.cosim_cmd.specs.Refusals.{IsFault};
 
 use crate::input::contents;
 use crate::line::image_line;
-use crate::names::names_of;
-use crate::refusal::{Fault, ModelBad};
+use crate::outcomes::outcome_text;
+use crate::refusal::{Fault, OutputBad, too_long, unread};
 use crate::topology_text::topology;
-use channel_stats::channel_lines;
 use cs_base::{Files, NoMemory, Octets};
 use device_api::Outcome;
 use device_set::{AnyDevice, StartBad, image_names, start};
 use global_model::simulate;
-use log_join::join;
 use serial_run::serial;
 use std::alloc::Global;
 use topology_file::Topology;
@@ -41,7 +38,6 @@ fn outcome(
 ) -> Result<Outcome, NoMemory>
     requires matches { map any_device.ports devices.items ≡ topology.now.wiring.kinds }
     requires at_start { All (λ device. IsSettledDevice device 0) devices.items }
-    requires served { CanRun clocks topology.now }
     ensures logs { IfOk result (HasLogsOf any_device devices.items topology.now.wiring) }
     ensures counts { IfOk result (HasCountsOf any_device devices.items topology.now.wiring) }
 {
@@ -61,19 +57,10 @@ fn run_text(
 ) -> Result<Octets, NoMemory>
     requires matches { map any_device.ports devices.items ≡ topology.now.wiring.kinds }
     requires at_start { All (λ device. IsSettledDevice device 0) devices.items }
-    requires served { CanRun clocks topology.now }
     ensures { IfOk result (λ text. text ≡ run_text stats topology.now devices.items) }
 {
-    let names = names_of(alloc, topology.components.as_slice())?;
     let outcome = outcome(alloc, clocks, topology, devices)?;
-    let mut text = join(alloc, &outcome.logs, names.as_slice())?;
-    if !stats {
-        return Ok(text);
-    }
-    let links = topology.wiring.links.as_slice();
-    let lines = channel_lines(alloc, names.as_slice(), links, outcome.counts.as_slice())?;
-    text.append(lines.as_slice())?;
-    Ok(text)
+    outcome_text(alloc, stats, topology, &outcome)
 }
 
 /// The line about a host whose program is too long.
@@ -111,7 +98,6 @@ pub fn logged(
     topology: &Topology,
     images: Vec<Octets>,
 ) -> Result<Octets, Fault>
-    requires { CanRun clocks topology.now }
     ensures logged { IfOk result (IsLogged stats topology.now images.items) }
     ensures refused { IfErr result (IsFault (IsTooLong topology.now images.items)) }
 {
@@ -121,31 +107,14 @@ pub fn logged(
     }
 }
 
-fn too_long(fault: Fault) -> ModelBad
-    ensures { result ≡ of_image fault }
-{
-    match fault {
-        Fault::Line(line) => ModelBad::Image(line),
-        Fault::NoMemory => ModelBad::NoMemory,
-    }
-}
-
-fn unread(fault: Fault) -> ModelBad
-    ensures { result ≡ unread_image fault }
-{
-    match fault {
-        Fault::Line(line) => ModelBad::File(line),
-        Fault::NoMemory => ModelBad::NoMemory,
-    }
-}
-
-/// The output of `model` on a topology text. The programs of hosts are read after the topology.
+/// The output of `model` on a topology text, and by local clocks that of `serial`. The programs of hosts are read after the topology.
 pub fn modelled<F: Files>(
     alloc: Global,
+    clocks: Clocks,
     stats: bool,
     bytes: &[u8],
     files: &mut F,
-) -> Result<Octets, ModelBad>
+) -> Result<Octets, OutputBad>
     ensures modelled { IfOk result (λ text.
         OfRead (AreImages bytes.now) (F.seen files.old) (F.seen files.new)
         (λ images. IsModelled stats bytes.now images text)) }
@@ -155,12 +124,12 @@ pub fn modelled<F: Files>(
 {
     let topology = match topology(alloc, bytes) {
         Ok(topology) => topology,
-        Err(Fault::Line(line)) => return Err(ModelBad::Topology(line)),
-        Err(Fault::NoMemory) => return Err(ModelBad::NoMemory),
+        Err(Fault::Line(line)) => return Err(OutputBad::Topology(line)),
+        Err(Fault::NoMemory) => return Err(OutputBad::NoMemory),
     };
     let names = image_names(alloc, &topology)?;
     match contents(alloc, names.as_slice(), files) {
-        Ok(images) => match logged(alloc, Clocks::Global, stats, &topology, images) {
+        Ok(images) => match logged(alloc, clocks, stats, &topology, images) {
             Ok(text) => Ok(text),
             Err(fault) => Err(too_long(fault)),
         },

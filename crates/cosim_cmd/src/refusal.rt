@@ -24,30 +24,6 @@ impl From<NoMemory> for Fault {
     }
 }
 
-/// Why the system of a topology text can't be run.
-#[derive(Debug, Drop)]
-pub enum ModelBad {
-    /// The text is no topology.
-    Topology(Octets),
-    /// The program of a host can't be read.
-    File(Octets),
-    /// The program of a host is longer than its RAM.
-    Image(Octets),
-    /// Memory is wanting.
-    NoMemory,
-}
-
-impl From<NoMemory> for ModelBad {
-    ghost use Rattle.std.specs.Prelude.{◌≡◌};
-    ghost use Rattle.cosim_cmd.specs.declared.refusal.ModelBad.TheVariants.{NoMemory};
-
-    ghost from_gives = { λ _ bad. bad ≡ NoMemory };
-
-    fn from(_error: NoMemory) -> ModelBad {
-        ModelBad::NoMemory
-    }
-}
-
 /// Why a command has no output.
 #[derive(Debug, Drop)]
 pub enum OutputBad {

@@ -1,53 +1,25 @@
 //! The command `replay`: how far a topology's devices come by the steps of a schedule.
-ghost use Rattle.std.specs.Prelude.{◌≡◌, None, All, map, length, IfOk, IfErr};
+ghost use Rattle.std.specs.Prelude.{◌≡◌, All, map, length, IfOk, IfErr};
 ghost use Rattle.device_set.specs.AnyKind.{any_device, IsSettledDevice};
 ghost use Rattle.log_join.specs.Before.{AreBefore};
 ghost use Rattle.mesh_core.specs.Left.{logs_left};
 ghost use Rattle.cosim_cmd.specs.Inputs.{AreImagesAnd, OfOneRead, OfRead, AsksAtMost, AsksIfAny};
 ghost use Rattle.cosim_cmd.specs.Refusals.{IsFault};
-ghost use Rattle.cosim_cmd.specs.Replay.{is_proxied, first_proxied_from, first_proxied, IsStateText, IsStepped, IsUnplayed, AreForReplay, WithSchedule, Replays, IsReplay, IsScheduleBad, IsSystemBad, IsReplayBad};
+ghost use Rattle.cosim_cmd.specs.Replay.{IsStateText, IsStepped, IsUnplayed, AreForReplay, WithSchedule, Replays, IsReplay, IsScheduleBad, IsSystemBad, IsReplayBad};
 
 use crate::input::{content, contents};
-use crate::line::{not_built_line, schedule_line};
+use crate::line::schedule_line;
 use crate::model::started;
 use crate::names::names_of;
 use crate::refusal::{Fault, OutputBad, too_long, unplayed, unread};
 use crate::topology_text::topology;
-use cs_base::{Files, Link, NoMemory, Octets, Via};
+use cs_base::{Files, NoMemory, Octets};
 use device_set::{AnyDevice, image_names};
 use mesh_core::Mesh;
 use mesh_core::laws::a_mesh_begins_the_global_run;
 use replay_run::{ReplayBad, replay_from_start, report};
 use std::alloc::Global;
 use topology_file::Topology;
-
-fn is_proxied(via: Via) -> bool
-    ensures { result ≡ is_proxied via }
-{
-    match via {
-        Via::Queue => false,
-        Via::Proxy => true,
-    }
-}
-
-/// The number of the first of these links that goes by proxy.
-fn proxied_among(links: &[Link]) -> Option<u64>
-    ensures { result ≡ first_proxied_from 0 links.now }
-{
-    for (number, link) in links.iter().enumerate() {
-        if is_proxied(link.via) {
-            return Some(number as u64);
-        }
-    }
-    None
-}
-
-/// The first link by proxy.
-pub fn first_proxied(topology: &Topology) -> Option<u64>
-    ensures { result ≡ first_proxied topology.now }
-{
-    proxied_among(topology.wiring.links.as_slice())
-}
 
 /// What is written of a mesh of a topology's devices.
 fn state_text(alloc: Global, topology: &Topology, mesh: Mesh<AnyDevice>) -> Result<Octets, NoMemory>
@@ -70,7 +42,6 @@ fn stepped(
 ) -> Result<Octets, Fault>
     requires matches { map any_device.ports devices.items ≡ topology.now.wiring.kinds }
     requires at_start { All (λ device. IsSettledDevice device 0) devices.items }
-    requires by_queues { first_proxied topology.now ≡ None }
     ensures written { IfOk result (IsStepped topology.now devices.items schedule.now) }
     ensures refused { IfErr result (IsFault (IsUnplayed topology.now devices.items schedule.now)) }
 {
@@ -92,7 +63,6 @@ fn scheduled<F: Files>(
 ) -> Result<Octets, OutputBad>
     requires matches { map any_device.ports devices.items ≡ topology.now.wiring.kinds }
     requires at_start { All (λ device. IsSettledDevice device 0) devices.items }
-    requires by_queues { first_proxied topology.now ≡ None }
     ensures written { IfOk result (λ text. OfOneRead name.now (F.seen files.old) (F.seen files.new)
         (λ schedule. IsStepped topology.now devices.items schedule text)) }
     ensures refused { IfErr result
@@ -109,14 +79,13 @@ fn scheduled<F: Files>(
     }
 }
 
-/// What is written of a topology that is served, after the schedule of this name. The programs of hosts are read first.
-fn on_queues<F: Files>(
+/// What is written of a topology after the schedule of this name. The programs of hosts are read first.
+fn on_topology<F: Files>(
     alloc: Global,
     topology: &Topology,
     name: &str,
     files: &mut F,
 ) -> Result<Octets, OutputBad>
-    requires { first_proxied topology.now ≡ None }
     ensures written { IfOk result (λ text.
         OfRead (AreForReplay topology.now name.now) (F.seen files.old) (F.seen files.new)
         (λ contents. WithSchedule contents (λ images schedule.
@@ -159,8 +128,5 @@ pub fn replayed<F: Files>(
         Err(Fault::Line(line)) => return Err(OutputBad::Topology(line)),
         Err(Fault::NoMemory) => return Err(OutputBad::NoMemory),
     };
-    match first_proxied(&topology) {
-        Some(link) => Err(OutputBad::NotBuilt(not_built_line(alloc, link)?)),
-        None => on_queues(alloc, &topology, schedule, files),
-    }
+    on_topology(alloc, &topology, schedule, files)
 }

@@ -1,8 +1,8 @@
 //! The words of the command line.
 ghost use Rattle.std.specs.Prelude.{◌≡◌, IfOk, option_copied, option_map};
 ghost use Rattle.clap.specs.Words.{app_of};
-ghost use Rattle.cosim_cmd.specs.Sentence.{texts, file_of, file_word, file_pair, file_and_stats, sentence_of};
-ghost use Rattle.cosim_cmd.specs.Said.{said, described, described_with_schedule, described_with_stats};
+ghost use Rattle.cosim_cmd.specs.Sentence.{texts, file_of, file_word, file_pair, word_and_flag, sentence_of};
+ghost use Rattle.cosim_cmd.specs.Said.{said, described, described_with_schedule, flag_name, flag_word, described_with_flag};
 
 use clap::error::ErrorKind;
 use clap::{Arg, ArgAction, Command};
@@ -85,32 +85,53 @@ fn file_pair<'a>(
     }
 }
 
-/// A command with one file and the option `--stats`. The words that it takes are those after its name.
-fn with_file_and_stats<'a>(alloc: Global, name: &'a str) -> Result<Command<'a>, NoMemory>
-    ensures { IfOk result (λ command. app_of command ≡ described_with_stats name.entry.now) }
-{
-    let stats = Arg::new(alloc, "stats")
-        .long("stats")
-        .action(ArgAction::SetTrue);
-    Ok(with_file(alloc, name)?.arg(stats)?)
+/// An option that has no value.
+#[derive(Clone, Copy, Debug)]
+pub enum Flag {
+    /// `--stats`
+    Stats,
+    /// `--text`
+    Text,
 }
 
-/// The file of a command with one file, and whether it has the option `--stats`; None where the words say something
+/// The name of an option, which its word has after `--`.
+fn flag_name<'a>(flag: Flag) -> &'a str
+    ensures { result.now ≡ flag_name flag }
+{
+    match flag {
+        Flag::Stats => "stats",
+        Flag::Text => "text",
+    }
+}
+
+/// A command with one file and an option that has no value. The words that it takes are those after its name.
+fn with_flag<'a>(alloc: Global, name: &'a str, flag: Flag) -> Result<Command<'a>, NoMemory>
+    ensures { IfOk result (λ command. app_of command ≡ described_with_flag flag name.entry.now) }
+{
+    let option = Arg::new(alloc, flag_name(flag))
+        .long(flag_name(flag))
+        .action(ArgAction::SetTrue);
+    Ok(with_file(alloc, name)?.arg(option)?)
+}
+
+/// The positional word of a command that has one, and whether the option is given; None where the words say something
 /// else.
-fn file_and_stats<'a>(
+pub fn word_and_flag<'a>(
     alloc: Global,
     name: &'a str,
+    flag: Flag,
     words: &'a [String],
 ) -> Result<Option<(&'a str, bool)>, NoMemory>
-    ensures { IfOk result (λ said. option_map (λ p. (p.0.now, p.1)) said ≡ file_and_stats (texts words.now)) }
+    ensures { IfOk result (λ said.
+        option_map (λ p. (p.0.now, p.1)) said ≡ word_and_flag (flag_word flag) (texts words.now)) }
 {
-    let command = with_file_and_stats(alloc, name)?;
+    let command = with_flag(alloc, name, flag)?;
     match command.try_get_matches_from(words) {
         Ok(matches) => {
-            let Some(file) = matches.get_str("file") else {
+            let Some(word) = matches.get_str("file") else {
                 return Ok(None);
             };
-            Ok(Some((file, matches.get_flag("stats"))))
+            Ok(Some((word, matches.get_flag(flag_name(flag)))))
         }
         Err(error) if error.kind() == ErrorKind::OutOfMemory => Err(NoMemory),
         Err(_) => Ok(None),
@@ -131,11 +152,11 @@ impl<'a> Sentence<'a> {
         };
         match command.as_str() {
             "check" => Ok(file_word(alloc, "check", words)?.map(|file| Sentence::Check { file })),
-            "model" => Ok(file_and_stats(alloc, "model", words)?.map(|(
+            "model" => Ok(word_and_flag(alloc, "model", Flag::Stats, words)?.map(|(
                 file,
                 stats,
             )| Sentence::Model { file, stats })),
-            "serial" => Ok(file_and_stats(alloc, "serial", words)?.map(|(
+            "serial" => Ok(word_and_flag(alloc, "serial", Flag::Stats, words)?.map(|(
                 file,
                 stats,
             )| Sentence::Serial { file, stats })),

@@ -1,9 +1,12 @@
 //! Co-simulation of whole systems: the program.
 #![tactic(auto)]
 
-use cosim_cmd::cosim_local;
-use cs_base::{RealFiles, RealSink};
+use cosim_cmd::{cosim_local, cosim_run};
+use cs_base::{Files, ListDialer, OpenGate, Queue, RealFiles, RealSink, Sink};
+use std::alloc::Global;
 use std::process::ExitCode;
+use std::sync::Wait;
+use std::thread::Threads;
 use std::{env, io};
 
 /// The words after the program's name. Where a word is no UTF-8 there are none, and so no sentence.
@@ -21,13 +24,44 @@ fn words(rt: &HostRuntime) -> io::Result<Vec<String>> {
     }
 }
 
+/// Whether the words call for the command that may wait.
+fn are_of_run(words: &[String]) -> bool {
+    match words.first() {
+        Some(command) => command.as_str() == "run",
+        None => false,
+    }
+}
+
+/// Runs components on threads. No channel is dialed yet, so there are no wires.
+fn on_threads<R: Threads + Wait + Sync, F: Files, K: Sink, E: Sink>(
+    rt: &R,
+    alloc: Global,
+    words: &[String],
+    files: &mut F,
+    out: &mut K,
+    err: &mut E,
+) -> u8 {
+    let mut dial = ListDialer::new(alloc, Queue::new(alloc));
+    let mut ends = Vec::new(alloc);
+    let mut rests = Vec::new(alloc);
+    cosim_run(
+        rt, alloc, words, files, &mut dial, &mut ends, &mut rests, out, err, &OpenGate,
+    )
+}
+
 fn main(rt: HostRuntime) -> ExitCode {
     let mut err = RealSink::new(rt.stderr());
     let Ok(words) = words(&rt) else {
         let _ = rt.eprintln("cosim: no memory");
         return ExitCode::from(1);
     };
+    let words = words.as_slice();
     let mut files = RealFiles::new(&rt);
     let mut out = RealSink::new(rt.stdout());
-    ExitCode::from(cosim_local(rt.alloc(), words.as_slice(), &mut files, &mut out, &mut err))
+    let status = if are_of_run(words) {
+        on_threads(&rt, rt.alloc(), words, &mut files, &mut out, &mut err)
+    } else {
+        cosim_local(rt.alloc(), words, &mut files, &mut out, &mut err)
+    };
+    ExitCode::from(status)
 }

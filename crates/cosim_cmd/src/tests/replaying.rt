@@ -112,13 +112,81 @@ fn other_topologies_are_ended_or_refused(rt: HostRuntime) -> Result<(), Fail> {
     let unread = replayed(alloc, NO_PORTS, None)?;
     assert_eq!(rt; unread.status, 3);
     assert_eq!(rt; unread.err.as_slice(), b"cosim: file s\n".as_slice());
-    let proxied = format!(in alloc; "end = 2600{TWO_BEACONS}via = \"proxy\"\n")?;
-    let proxied = replayed(alloc, proxied.as_str(), None)?;
-    assert_eq!(rt; proxied.status, 20);
+    Ok(())
+}
+
+/// `replay` of a schedule on the two beacons, whose link goes by proxies.
+fn over_proxies(alloc: Global, schedule: &str) -> Result<Answer, Fail> {
+    let topology = format!(in alloc; "end = 2600{TWO_BEACONS}via = \"proxy\"\n")?;
+    replayed(alloc, topology.as_str(), Some(schedule))
+}
+
+/// A message of each beacon without a payload, each a frame of 68 bytes.
+const ONE_EACH: &str = "send 0\ntake 0\nmove 0 68\nput 0\npoll 0
+send 1\ntake 1\nmove 1 68\nput 1\npoll 1
+";
+
+/// The first frame, and then b's and a's null messages at 1500 before b takes the frame.
+const THE_FRAME: &str = "event 0\nsend 0\ntake 0\nmove 0 100\nmove 0 28\nput 0\npoll 0
+event 1\nsend 1\ntake 1\nmove 1 68\nput 1\npoll 1
+event 0\nevent 1
+";
+
+#[test]
+fn messages_go_by_proxies(rt: HostRuntime) -> Result<(), Fail> {
+    let mut schedule = String::from_str(rt.alloc(), ONE_EACH)?;
+    for _time in 0..3 {
+        schedule.push_str("event 0\nevent 1\n")?;
+        schedule.push_str(ONE_EACH)?;
+    }
+    schedule.push_str(THE_FRAME)?;
+    let answer = over_proxies(rt.alloc(), schedule.as_str())?;
+    assert_eq!(rt; answer.status, 0);
     assert_eq!(rt;
-        proxied.err.as_slice(),
-        b"cosim: not built link 0\n".as_slice()
+        answer.out.as_slice(),
+        b"1000 a tx 60\n1500 b rx 60\nstate running\n".as_slice()
     );
+    Ok(())
+}
+
+/// An introduction of which so many bytes move, one at a time, and then some lines.
+fn byte_by_byte(alloc: Global, bytes: u32, then: &str) -> Result<Answer, Fail> {
+    let mut schedule = String::from_str(alloc, "send 0\ntake 0\n")?;
+    for _byte in 0..bytes {
+        schedule.push_str("move 0 1\n")?;
+    }
+    schedule.push_str(then)?;
+    over_proxies(alloc, schedule.as_str())
+}
+
+#[test]
+fn bytes_move_one_at_a_time(rt: HostRuntime) -> Result<(), Fail> {
+    let whole = byte_by_byte(rt.alloc(), 68, "put 0\npoll 0\n")?;
+    assert_eq!(rt; whole.out.as_slice(), b"state running\n".as_slice());
+    let short = byte_by_byte(rt.alloc(), 67, "put 0\n")?;
+    assert_eq!(rt; short.err.as_slice(), b"cosim: schedule 70\n".as_slice());
+    let past = byte_by_byte(rt.alloc(), 69, "")?;
+    assert_eq!(rt; past.err.as_slice(), b"cosim: schedule 71\n".as_slice());
+    Ok(())
+}
+
+/// A schedule over proxies, and its first line at fault.
+const UNMOVED: [(&str, u64); 5] = [
+    ("send 0\npoll 0\n", 2),
+    ("take 0\n", 1),
+    ("send 0\nmove 0 1\n", 2),
+    ("send 0\ntake 0\nmove 0 69\n", 3),
+    ("send 0\ntake 0\nmove 0 0\n", 3),
+];
+
+#[test]
+fn steps_between_the_ends_have_their_turn(rt: HostRuntime) -> Result<(), Fail> {
+    for (schedule, line) in &UNMOVED {
+        let answer = over_proxies(rt.alloc(), schedule)?;
+        assert_eq!(rt; answer.status, 10);
+        let text = format!(in rt.alloc(); "cosim: schedule {line}\n")?;
+        assert_eq!(rt; answer.err.as_slice(), text.as_bytes());
+    }
     Ok(())
 }
 

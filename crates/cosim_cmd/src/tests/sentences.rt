@@ -2,7 +2,7 @@
 use super::plain;
 use std::test::Fail;
 
-const NO_SENTENCES: [&[&str]; 17] = [
+const NO_SENTENCES: [&[&str]; 29] = [
     &[],
     &[""],
     &["model"],
@@ -20,6 +20,18 @@ const NO_SENTENCES: [&[&str]; 17] = [
     &["--help"],
     &["serial", "a", "b"],
     &["run", "a", "--workers", "2"],
+    &["load"],
+    &["load", "0"],
+    &["load", "31"],
+    &["load", "01"],
+    &["load", "+1"],
+    &["load", "-1"],
+    &["load", "1 "],
+    &["load", "4294967297"],
+    &["load", "1", "2"],
+    &["load", "1", "--stats"],
+    &["load", "--text", "1", "--text"],
+    &["load", "--", "--text"],
 ];
 
 #[test]

@@ -4,12 +4,15 @@ use std::alloc::Global;
 use std::test::Fail;
 
 /// Keys of the topology and of its link, under which `serial` writes what `model` does.
-const SERVED: [(&str, &str); 5] = [
+const SERVED: [(&str, &str); 8] = [
     ("end = 1", ""),
     ("end = 2600", ""),
     ("end = 1000000", "slots = 1"),
     ("end = 2500", "interval = 1"),
     ("end = 2501", "interval = 500"),
+    ("end = 2600", "via = \"proxy\""),
+    ("end = 1000000", "via = \"proxy\"\nslots = 1"),
+    ("end = 2501", "via = \"proxy\"\ninterval = 500"),
 ];
 
 /// A command on the two beacons, with statistics.
@@ -26,16 +29,5 @@ fn steps_lead_to_the_global_run(rt: HostRuntime) -> Result<(), Fail> {
         assert_eq!(rt; serial.status, 0);
         assert_eq!(rt; serial.out.as_slice(), global.out.as_slice());
     }
-    Ok(())
-}
-
-#[test]
-fn links_by_proxy_are_refused(rt: HostRuntime) -> Result<(), Fail> {
-    let answer = on_two_beacons(rt.alloc(), "serial", "end = 2600", "via = \"proxy\"")?;
-    assert_eq!(rt; answer.status, 20);
-    assert_eq!(rt;
-        answer.err.as_slice(),
-        b"cosim: not built link 0\n".as_slice()
-    );
     Ok(())
 }

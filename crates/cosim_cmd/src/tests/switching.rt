@@ -3,7 +3,7 @@ use super::on_text;
 use std::test::Fail;
 
 /// Two stations send at once, and the third one hears after the end.
-const THREE_STATIONS: &str = r#"
+pub const THREE_STATIONS: &str = r#"
 end = 1501
 [[component]]
 name = "s"
@@ -43,7 +43,7 @@ b_port = 1
 latency = 500
 "#;
 
-const NO_PORTS: &str = r#"
+pub const NO_PORTS: &str = r#"
 end = 1
 [[component]]
 name = "s"

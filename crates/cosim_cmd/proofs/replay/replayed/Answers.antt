@@ -1,35 +1,18 @@
-use Rattle.std.proofs.Common.{◌≡◌, ◌∙◌, None, Some, refl, sym}
 use Rattle.std.proofs.lemmas.Result.{IfOk-weaker, IfErr-weaker}
-use Rattle.cosim_cmd.specs.Replay.{first_proxied}
 use Rattle.cosim_cmd.proofs.ReplayReading.{text_written, text_bad, text_asked}
 use Rattle.cosim_cmd.proofs.replay.replayed.Goals as goal
-
-pub returns-in-Some-clause-refused : goal.returns-in-Some-clause-refused
-returns-in-Some-clause-refused g c =
-    let t = c.in-Ok.topology in
-    let first : first_proxied t ≡ Some c.in-Some.link = sym c.first_proxied.ensures ∙ c.in-Some.is in (
-      record {
-        topology = t;
-        spelled = c.in-Ok.ensures.spelled;
-        fact = record { number = c.in-Some.link; first = first; named = c.in_ok-not_built_line-in-Some.ensures };
-      },
-      refl,
-    )
 
 pub returns-clause-replayed : goal.returns-clause-replayed
 returns-clause-replayed g c =
     let t = c.in-Ok.topology in
-    let by_queues : first_proxied t ≡ None = sym c.first_proxied.ensures ∙ c.in-None.is in
-    IfOk-weaker c.on_queues.result _ _ (text_written c.args.bytes.now t c.in-Ok.ensures.spelled by_queues c.args.schedule.now (g.F.Files.seen c.args.files.now) (g.F.Files.seen c.on_queues.new.files)) c.on_queues.ensures.written
+    IfOk-weaker c.on_topology.result _ _ (text_written c.args.bytes.now t c.in-Ok.ensures.spelled c.args.schedule.now (g.F.Files.seen c.args.files.now) (g.F.Files.seen c.on_topology.new.files)) c.on_topology.ensures.written
 
 pub returns-clause-refused : goal.returns-clause-refused
 returns-clause-refused g c =
     let t = c.in-Ok.topology in
-    let by_queues : first_proxied t ≡ None = sym c.first_proxied.ensures ∙ c.in-None.is in
-    IfErr-weaker c.on_queues.result _ _ (text_bad c.args.bytes.now t c.in-Ok.ensures.spelled by_queues c.args.schedule.now (g.F.Files.seen c.args.files.now) (g.F.Files.seen c.on_queues.new.files)) c.on_queues.ensures.refused
+    IfErr-weaker c.on_topology.result _ _ (text_bad c.args.bytes.now t c.in-Ok.ensures.spelled c.args.schedule.now (g.F.Files.seen c.args.files.now) (g.F.Files.seen c.on_topology.new.files)) c.on_topology.ensures.refused
 
 pub returns-clause-asked : goal.returns-clause-asked
 returns-clause-asked g c =
     let t = c.in-Ok.topology in
-    let by_queues : first_proxied t ≡ None = sym c.first_proxied.ensures ∙ c.in-None.is in
-    text_asked c.args.bytes.now t c.in-Ok.ensures.spelled by_queues c.args.schedule.now (g.F.Files.seen c.args.files.now) (g.F.Files.seen c.on_queues.new.files) c.on_queues.ensures.asked
+    text_asked c.args.bytes.now t c.in-Ok.ensures.spelled c.args.schedule.now (g.F.Files.seen c.args.files.now) (g.F.Files.seen c.on_topology.new.files) c.on_topology.ensures.asked

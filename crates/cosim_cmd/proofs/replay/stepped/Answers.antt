@@ -1,9 +1,6 @@
 use Rattle.device_set.specs.AnyKind.{any_device, IsSettledDevice}
-use Rattle.cosim_cmd.proofs.MeshLogs.{logs_left-before, all_by_queues}
+use Rattle.cosim_cmd.proofs.MeshLogs.{logs_left-before}
 use Rattle.cosim_cmd.proofs.replay.stepped.Goals as goal
-
-pub replay_from_start-requires-clause-by_queues : goal.replay_from_start-requires-clause-by_queues
-replay_from_start-requires-clause-by_queues c = all_by_queues c.args.topology.now.wiring.links c.requires.by_queues
 
 pub state_text-requires-clause-before : goal.state_text-requires-clause-before
 state_text-requires-clause-before c =

@@ -1,0 +1,309 @@
+//! Runs on threads.
+use super::switching::{NO_PORTS, THREE_STATIONS};
+use super::{Answer, FILE, FOUR_LINES, TWO_BEACONS, files, owned, plain, sink};
+use crate::cosim_run;
+use cs_base::{Gate, ListDialer, MemFiles, MemSink, Octets, OpenGate, Queue};
+use std::alloc::Global;
+use std::sync::Wait;
+use std::sync::atomic::{AtomicU64, Ordering};
+use std::test::Fail;
+use std::thread;
+use std::thread::Threads;
+
+/// What `run` answers, and how many queues it leaves.
+#[derive(Drop)]
+struct Run {
+    answer: Answer,
+    rests: usize,
+}
+
+fn run_of<R: Threads + Wait + Sync, G: Gate + Sync>(
+    rt: &R,
+    alloc: Global,
+    words: &[&str],
+    files: &mut MemFiles,
+    out: &mut MemSink,
+    err: &mut MemSink,
+    gate: &G,
+) -> Result<Run, Fail> {
+    let words = owned(alloc, words)?;
+    let mut dial = ListDialer::new(alloc, Queue::new(alloc));
+    let mut ends = Vec::new(alloc);
+    let mut rests = Vec::new(alloc);
+    let status = cosim_run(
+        rt,
+        alloc,
+        words.as_slice(),
+        files,
+        &mut dial,
+        &mut ends,
+        &mut rests,
+        out,
+        err,
+        gate,
+    );
+    Ok(Run {
+        answer: Answer {
+            status,
+            out: Octets::from_slice(alloc, out.written())?,
+            err: Octets::from_slice(alloc, err.written())?,
+        },
+        rests: rests.len(),
+    })
+}
+
+/// A run on a topology text, over an output that takes all.
+fn run_on<R: Threads + Wait + Sync>(
+    rt: &R,
+    alloc: Global,
+    words: &[&str],
+    text: &[u8],
+) -> Result<Run, Fail> {
+    run_of(
+        rt,
+        alloc,
+        words,
+        &mut files(alloc, text)?,
+        &mut sink(alloc, 65_536, &[])?,
+        &mut sink(alloc, 65_536, &[])?,
+        &OpenGate,
+    )
+}
+
+const WORKERS: [&str; 4] = ["--workers=1", "--workers=2", "--workers=5", "--workers=64"];
+
+/// Keys of the two beacons' topology and of its link, under which `run` writes what `model` does.
+const SERVED: [(&str, &str); 5] = [
+    ("end = 1", ""),
+    ("end = 2600", ""),
+    ("end = 1000000", "slots = 1"),
+    ("end = 2500", "interval = 1"),
+    ("end = 2501", "interval = 500"),
+];
+
+#[test]
+fn workers_write_the_global_run(rt: HostRuntime) -> Result<(), Fail> {
+    for (end, key) in &SERVED {
+        let topology = format!(in rt.alloc(); "{end}{TWO_BEACONS}{key}\n")?;
+        let text = topology.as_bytes();
+        let global = plain(rt.alloc(), &["model", FILE, "--stats"], text)?;
+        for workers in &WORKERS {
+            let run = run_on(&rt, rt.alloc(), &["run", FILE, "--stats", *workers], text)?;
+            assert_eq!(rt; run.answer.status, 0);
+            assert_eq!(rt; run.answer.out.as_slice(), global.out.as_slice());
+            assert_eq!(rt; run.rests, 2);
+        }
+    }
+    Ok(())
+}
+
+#[test]
+fn every_run_writes_the_same(rt: HostRuntime) -> Result<(), Fail> {
+    let topology = format!(in rt.alloc(); "end = 2600{TWO_BEACONS}slots = 1\n")?;
+    for _run in 0..50 {
+        let run = run_on(
+            &rt,
+            rt.alloc(),
+            &["run", "--workers", "2", FILE],
+            topology.as_bytes(),
+        )?;
+        assert_eq!(rt; run.answer.out.as_slice(), FOUR_LINES.as_bytes());
+    }
+    Ok(())
+}
+
+/// Three switches in a ring.
+const RING: &str = r#"
+end = 10
+[[component]]
+name = "a"
+kind = "switch"
+ports = 2
+[[component]]
+name = "b"
+kind = "switch"
+ports = 2
+[[component]]
+name = "c"
+kind = "switch"
+ports = 2
+[[link]]
+a = "a"
+b = "b"
+b_port = 1
+latency = 1
+[[link]]
+a = "b"
+b = "c"
+b_port = 1
+latency = 1
+[[link]]
+a = "c"
+b = "a"
+b_port = 1
+latency = 1
+"#;
+
+/// Networks, of the last of which nothing is joined.
+const NETWORKS: [(&str, usize); 3] = [(RING, 6), (THREE_STATIONS, 6), (NO_PORTS, 0)];
+
+#[test]
+fn networks_run_on_workers(rt: HostRuntime) -> Result<(), Fail> {
+    for (topology, channels) in &NETWORKS {
+        let text = topology.as_bytes();
+        let global = plain(rt.alloc(), &["model", FILE, "--stats"], text)?;
+        for workers in &WORKERS {
+            let run = run_on(&rt, rt.alloc(), &["run", *workers, "--stats", FILE], text)?;
+            assert_eq!(rt; run.answer.status, 0);
+            assert_eq!(rt; run.answer.out.as_slice(), global.out.as_slice());
+            assert_eq!(rt; run.rests, *channels);
+        }
+    }
+    Ok(())
+}
+
+/// Words that are no sentence of `run`.
+const NO_SENTENCES: [&[&str]; 25] = [
+    &[],
+    &["run"],
+    &["run", "a"],
+    &["run", "--workers", "2"],
+    &["run", "a", "--workers"],
+    &["run", "a", "--workers="],
+    &["run", "a", "--workers", "0"],
+    &["run", "a", "--workers", "65"],
+    &["run", "a", "--workers=02"],
+    &["run", "a", "--workers", "+2"],
+    &["run", "a", "--workers", "-2"],
+    &["run", "a", "--workers", "2x"],
+    &["run", "a", "--workers", "--", "2"],
+    &["run", "a", "--worker", "2"],
+    &["run", "a", "--workers=2", "--workers=2"],
+    &["run", "a", "--workers", "2", "--workers", "2"],
+    &["run", "a", "--workers=2", "2"],
+    &["run", "a", "--workers=2", "--text"],
+    &["run", "--stats", "a", "--workers=2", "--stats"],
+    &["run", "a", "--workers=2", "--stats=1"],
+    &["run", "--", "a", "--workers=2"],
+    &["run", "--workers=2", "--help"],
+    &["run", "--workers=2", "-1"],
+    &["model", "a"],
+    &["-run", "a", "--workers=2"],
+];
+
+#[test]
+fn other_words_than_those_of_run_are_refused(rt: HostRuntime) -> Result<(), Fail> {
+    for words in &NO_SENTENCES {
+        let refused = run_on(&rt, rt.alloc(), words, b"")?;
+        assert_eq!(rt; refused.answer.status, 2);
+        assert_eq!(rt; refused.answer.err.as_slice(), b"cosim: usage\n".as_slice());
+    }
+    Ok(())
+}
+
+/// Words of a sentence, and the line about their file, which isn't there.
+const NAMED: [(&[&str], &str); 7] = [
+    (&["run", "a", "--workers", "1"], "cosim: file a\n"),
+    (&["run", "--workers", "64", "a"], "cosim: file a\n"),
+    (&["run", "--workers=10", "--stats", "a"], "cosim: file a\n"),
+    (
+        &["run", "a", "--stats", "--workers", "2", "--"],
+        "cosim: file a\n",
+    ),
+    (&["run", "--workers=2", "--", "-a"], "cosim: file -a\n"),
+    (
+        &["run", "--workers=2", "--", "--workers=2"],
+        "cosim: file --workers=2\n",
+    ),
+    (&["run", "-", "--workers=2"], "cosim: file -\n"),
+];
+
+#[test]
+fn sentences_of_run_name_their_file(rt: HostRuntime) -> Result<(), Fail> {
+    for (words, line) in &NAMED {
+        let unread = run_on(&rt, rt.alloc(), words, b"")?;
+        assert_eq!(rt; unread.answer.status, 3);
+        assert_eq!(rt; unread.answer.err.as_slice(), line.as_bytes());
+    }
+    Ok(())
+}
+
+#[test]
+fn links_by_proxy_are_not_run(rt: HostRuntime) -> Result<(), Fail> {
+    let topology = format!(in rt.alloc(); "end = 2600{TWO_BEACONS}via = \"proxy\"\n")?;
+    let refused = run_on(
+        &rt,
+        rt.alloc(),
+        &["run", FILE, "--workers=2"],
+        topology.as_bytes(),
+    )?;
+    assert_eq!(rt; refused.answer.status, 20);
+    let line = b"cosim: not built link 0\n";
+    assert_eq!(rt; refused.answer.err.as_slice(), line.as_slice());
+    Ok(())
+}
+
+#[test]
+fn a_failing_output_leaves_no_queues(rt: HostRuntime) -> Result<(), Fail> {
+    let alloc = rt.alloc();
+    let topology = format!(in alloc; "end = 2600{TWO_BEACONS}")?;
+    let run = run_of(
+        &rt,
+        alloc,
+        &["run", FILE, "--workers=2"],
+        &mut files(alloc, topology.as_bytes())?,
+        &mut sink(alloc, 10, &[1])?,
+        &mut sink(alloc, 100, &[0])?,
+        &OpenGate,
+    )?;
+    assert_eq!(rt; run.answer.status, 9);
+    assert_eq!(rt; run.answer.out.as_slice(), b"1000 a tx ".as_slice());
+    assert!(rt; run.answer.err.is_empty());
+    assert_eq!(rt; run.rests, 0);
+    Ok(())
+}
+
+/// It holds worker 0 until worker 1 has passed, for so many turns at most.
+#[derive(Drop)]
+struct Meeting {
+    passed: AtomicU64,
+    missed: AtomicU64,
+}
+
+impl Gate for Meeting {
+    fn pass(&self, worker: u32) {
+        if worker == 1 {
+            self.passed.store(1, Ordering::SeqCst);
+            return;
+        }
+        for _ in 0..10_000_000u32 {
+            if self.passed.load(Ordering::SeqCst) == 1 {
+                return;
+            }
+            thread::yield_now();
+        }
+        self.missed.store(1, Ordering::SeqCst);
+    }
+}
+
+#[test]
+fn two_workers_run_at_once(rt: HostRuntime) -> Result<(), Fail> {
+    let alloc = rt.alloc();
+    let topology = format!(in alloc; "end = 2600{TWO_BEACONS}")?;
+    let meeting = Meeting {
+        passed: AtomicU64::new(0),
+        missed: AtomicU64::new(0),
+    };
+    let run = run_of(
+        &rt,
+        alloc,
+        &["run", FILE, "--workers=2"],
+        &mut files(alloc, topology.as_bytes())?,
+        &mut sink(alloc, 65_536, &[])?,
+        &mut sink(alloc, 65_536, &[])?,
+        &meeting,
+    )?;
+    assert_eq!(rt; run.answer.out.as_slice(), FOUR_LINES.as_bytes());
+    assert_eq!(rt; meeting.missed.load(Ordering::SeqCst), 0);
+    Ok(())
+}
