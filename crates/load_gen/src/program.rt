@@ -1,5 +1,5 @@
 //! The program that the hosts run.
-ghost use Rattle.std.specs.Prelude.{◌≡◌, Ok, IfOk};
+ghost use Rattle.std.specs.Prelude.{◌≡◌, ◌≤◌, Ok, IfOk, length};
 ghost use Rattle.rv32_asm.specs.Assembled.{assembled};
 ghost use Rattle.load_gen.specs.Ping.{ping_source};
 
@@ -74,9 +74,11 @@ wait:   lw t1, 16(a2)
         sw t1, 4(t2)
 ";
 
-/// The bytes of the program that the hosts run, the file `ping.bin`. The assembler takes its source, which is proved.
+/// The bytes of the program that the hosts run, the file `ping.bin`; they are no more than a host's RAM, 65,536. The
+/// assembler takes its source, which is proved.
 pub fn load_image(alloc: Global) -> Result<Octets, NoMemory>
-    ensures { IfOk result (λ bytes. assembled ping_source ≡ Ok bytes) }
+    ensures assembled { IfOk result (λ bytes. assembled ping_source ≡ Ok bytes) }
+    ensures fits { IfOk result (λ bytes. length bytes ≤ 65536) }
 {
     match assemble(alloc, PING) {
         Ok(bytes) => Ok(bytes),
