@@ -4,8 +4,10 @@
 
 mod checksum;
 mod compare;
+pub mod differ;
 #[cfg(test)]
 mod tests;
 
 pub use checksum::ones_sum;
 pub use compare::first_difference;
+pub use differ::Differ;

@@ -5,7 +5,7 @@ use Rattle.std.proofs.lemmas.Bool.{leb-true, leb-false}
 use Rattle.std.proofs.lemmas.Option.{same_Some, slice_get-get_or, slice_get_within}
 use mathlib.Core.List.{IsPrefix}
 use Rattle.cs_base.specs.declared.wire_end.WireEnd.{WireEnd}
-use Rattle.tcp_proxy.specs.declared.comparing.Differ.{Differ}
+use Rattle.lane_kernels.specs.declared.differ.Differ.{Differ}
 use Rattle.tcp_proxy.specs.Comparing.{IsFirstDiffer}
 use Rattle.proxy_members.specs.Differing.{AreInOrder, AllAgree, AgreeBelow, IsFirstToDiffer}
 

@@ -2,7 +2,7 @@
 use Rattle.std.specs.Prelude.{ℕ, ◌≡◌, ◌<◌, List, slice_get, Some}
 use mathlib.Core.List.{IsPrefix}
 use Rattle.cs_base.specs.declared.wire_end.WireEnd.{WireEnd}
-use Rattle.tcp_proxy.specs.declared.comparing.Differ.{Differ}
+use Rattle.lane_kernels.specs.declared.differ.Differ.{Differ}
 use Rattle.tcp_proxy.specs.Comparing.{IsFirstDiffer}
 
 -- the ends of channels in the order of their numbers

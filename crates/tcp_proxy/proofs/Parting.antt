@@ -4,7 +4,7 @@ use Rattle.std.proofs.Common.{◌≡◌, ℕ, zero, suc, ◌+◌, ◌<◌, ◌�
 use Rattle.std.proofs.lemmas.Bool.Decides.{nat_tests}
 use mathlib.Core.List.{IsPrefix}
 use Rattle.lane_kernels.specs.Difference.{difference_at, first_difference_of}
-use Rattle.tcp_proxy.specs.declared.comparing.Differ.{Differ}
+use Rattle.lane_kernels.specs.declared.differ.Differ.{Differ}
 use Rattle.tcp_proxy.specs.Comparing.{Differs, IsFirstDiffer, ComesApart}
 
 same_byte : (x y : ℕ) → (x == y) ≡ true → x ≡ y

@@ -1,7 +1,7 @@
 -- Where what came is not what was sent.
 use Rattle.std.specs.Prelude.{ℕ, ◌≡◌, ◌≢◌, List, take, slice_get, Option, Some, MatchOption}
 use mathlib.Core.List.{IsPrefix}
-use Rattle.tcp_proxy.specs.declared.comparing.Differ.{Differ}
+use Rattle.lane_kernels.specs.declared.differ.Differ.{Differ}
 
 -- both have the same before this place, and another byte than this, which came, was sent there, or none
 pub record Differs (sent got : List ℕ) (at byte : ℕ) : Type 0 where

@@ -2,18 +2,8 @@ ghost use Rattle.std.specs.Prelude.{◌↔◌, IsNone, IfSome, MatchOption, slic
 ghost use mathlib.Core.List.{IsPrefix};
 ghost use Rattle.tcp_proxy.specs.Comparing.{Differs, IsFirstDiffer, ComesApart};
 
+use lane_kernels::differ::Differ;
 use lane_kernels::first_difference;
-
-/// The first place at which what came is not what was sent.
-#[derive(Clone, Copy, Debug, PartialEq, Eq)]
-pub struct Differ {
-    /// The place, in bytes from the start.
-    pub offset: u64,
-    /// What was sent there; None where less was sent.
-    pub sent: Option<u8>,
-    /// What came there.
-    pub got: u8,
-}
 
 /// Compares what was sent with what came: None exactly where what came is a beginning of what was sent.
 pub fn compare(sent: &[u8], got: &[u8]) -> Option<Differ>

@@ -11,8 +11,9 @@ pub mod proxy_in;
 pub mod proxy_out;
 mod taking;
 
-pub use comparing::{Differ, compare};
+pub use comparing::compare;
 pub use hop::{Hop, ProxyBad};
+pub use lane_kernels::differ::Differ;
 pub use laws::what_was_pushed_was_popped;
 pub use proxy_in::ProxyIn;
 pub use proxy_out::ProxyOut;

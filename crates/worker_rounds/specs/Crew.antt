@@ -1,7 +1,7 @@
 -- All workers of a run.
 use Rattle.std.specs.Prelude.{ℕ, ◌≡◌, ◌+◌, ◌≤◌, ◌<◌, ◌^◌, List, length, Option, Some, None, slice_index_or, All, MatchOption, if◌then◌else◌, nat_le}
 use Rattle.worker_rounds.specs.declared.mesh_bad.MeshBad.{MeshBad}
-use Rattle.worker_rounds.specs.declared.mesh_bad.MeshBad.TheVariants.{Lost, Peer, NoMemory}
+use Rattle.worker_rounds.specs.declared.mesh_bad.MeshBad.TheVariants.{Lost, Peer, Differs, NoMemory}
 use Rattle.worker_rounds.specs.Passes.{HaveEnded}
 use Rattle.worker_rounds.specs.Rounds.{Work, Worked, IsSound}
 
@@ -21,13 +21,13 @@ pub record AllEnded {M : Type 0} (ended : M → Type 0) (workers : List (Work M)
   pub each : (k : ℕ) (d : Work M) → k < length workers
       → HaveEnded ended (slice_index_or workers k d).members
 
--- of several faults a lost channel comes first, then one with a bad peer, and want of memory last;
--- of two of one sort that
--- of the lesser channel
+-- of several faults a lost channel comes first, then one with a bad peer, then one that differs, and
+-- want of memory last; of two of one sort that of the lesser channel
 abbrev pub order_of : MeshBad → ℕ
 order_of (Lost channel) = channel
 order_of (Peer channel offset reason) = 2 ^ 32 + channel
-order_of NoMemory = 2 ^ 33
+order_of (Differs channel differ) = 2 ^ 33 + channel
+order_of NoMemory = 2 ^ 34
 
 -- the sooner of two faults in that order
 abbrev pub sooner_of : Option MeshBad → Option MeshBad → Option MeshBad

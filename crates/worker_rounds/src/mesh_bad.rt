@@ -1,4 +1,5 @@
 use cs_base::PeerReason;
+use lane_kernels::differ::Differ;
 use thiserror::Error;
 
 /// Why a run on workers ended before its time.
@@ -15,6 +16,12 @@ pub enum MeshBad {
         channel: u32,
         offset: u64,
         reason: PeerReason,
+    },
+    /// What came in on a channel is not what went out.
+    #[error("link differs {channel} {}", .differ.offset)]
+    Differs {
+        channel: u32,
+        differ: Differ,
     },
     /// Memory is wanting.
     #[error("no memory")]

@@ -79,7 +79,8 @@ fn order_of(fault: MeshBad) -> u64
     match fault {
         MeshBad::Lost { channel } => channel as u64,
         MeshBad::Peer { channel, .. } => (1 << 32) + channel as u64,
-        MeshBad::NoMemory => 1 << 33,
+        MeshBad::Differs { channel, .. } => (1 << 33) + channel as u64,
+        MeshBad::NoMemory => 1 << 34,
     }
 }
 
