@@ -5,8 +5,6 @@ ghost use Rattle.cs_base.specs.declared.port_kind.PortKind.TheVariants.{Eth as E
 ghost use Rattle.cs_base.specs.declared.port_kind.Via.TheVariants.{Queue as ByQueue};
 ghost use Rattle.device_api.specs.Beacon.{IsSettledBeacon};
 
-mod lone;
-
 use crate::{Crew, Part, Queues, a_crew_is_seated, run_mesh};
 use cs_base::{
     BeaconConfig, Items, Link, ListDialer, Mac, OpenGate, PortKind, Queue, Time, Via, Wiring,
