@@ -26,7 +26,7 @@ at_worker workers parts dealt c part at =
     let worker = there_below workers (c % length workers) below in
     ap (λ o. slice_get (members_of o) (c / length workers)) worker.1 ∙ dealt.dealt (c % length workers) (c / length workers) worker.0 worker.1 ∙ ap (slice_get parts) (mod-add-div' c (length workers)) ∙ at
 
-module _ {V : Type 0} (b : Behaviour V) (settled : V → ℕ → Type 0) (starts : List V) (links : List Link) (end : ℕ) (names : List TableId) (workers : List (Work (Part V))) (parts : List (Part V)) (dealt : AreDealt workers parts) (as_many : length parts ≡ length starts) (each : (c : ℕ) (start : V) (part : Part V) → slice_get starts c ≡ Some start → slice_get parts c ≡ Some part → IsPartOf b settled links end names c start part) where
+module _ {V : Type 0} (b : Behaviour V) (settled : V → ℕ → Type 0) (starts : List V) (links : List Link) (end : ℕ) (near far : List TableId) (workers : List (Work (Part V))) (parts : List (Part V)) (dealt : AreDealt workers parts) (as_many : length parts ≡ length starts) (each : (c : ℕ) (start : V) (part : Part V) → slice_get starts c ≡ Some start → slice_get parts c ≡ Some part → IsPartOf b settled links end near far c start part) where
   part_fits : (c : ℕ) (part : Part V) → slice_get parts c ≡ Some part → PartFits b settled part
   part_fits c part at = (let within : c < length parts = slice_get_within parts c part at in let start = there_below starts c (omega (arith, as_many)) in record { start = start.0; stands = (each c start.0 part start.1 at).stands })
 
@@ -36,7 +36,7 @@ module _ {V : Type 0} (b : Behaviour V) (settled : V → ℕ → Type 0) (starts
     no_fault = dealt.no_fault w worker at;
   }
 
-  pub is_crew : IsPlan end (map b.ports starts) links → IsCrewOf b settled starts links end names workers
+  pub is_crew : IsPlan end (map b.ports starts) links → IsCrewOf b settled starts links end near far workers
   is_crew wired = record {
     wired = wired;
     some_worker = dealt.some_worker;

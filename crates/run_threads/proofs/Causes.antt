@@ -96,20 +96,20 @@ module _ {V : Type 0} (b : Behaviour V) (settled : V → ℕ → Type 0) (Q : �
 
 -- ALL WORKERS
 
-module _ {V : Type 0} (b : Behaviour V) (settled : V → ℕ → Type 0) (lawful : IsLawful b settled) (starts : List V) (links : List Link) (end : ℕ) (names : List TableId) (old new : List (Work (Part V))) (fared : AllFared (PartDid b settled) PartFailed old new) (of : IsCrewOf b settled starts links end names old) where
+module _ {V : Type 0} (b : Behaviour V) (settled : V → ℕ → Type 0) (lawful : IsLawful b settled) (starts : List V) (links : List Link) (end : ℕ) (near far : List TableId) (old new : List (Work (Part V))) (fared : AllFared (PartDid b settled) PartFailed old new) (of : IsCrewOf b settled starts links end near far old) where
   abbrev n : ℕ
   n = length old
 
   record IsNumbered (c : ℕ) (part : Part V) : Type 0 where
     start : V
     at_start : slice_get starts c ≡ Some start
-    is : IsPartOf b settled links end names c start part
+    is : IsPartOf b settled links end near far c start part
 
   kept_numbered : (w k : ℕ) (x y : Part V) → IsNumbered (w + k * n) x → PartDid b settled x y → IsNumbered (w + k * n) y
-  kept_numbered w k x y numbered did = record { start = numbered.start; at_start = numbered.at_start; is = did_keeps b settled lawful links end names (w + k * n) numbered.start x y numbered.is did }
+  kept_numbered w k x y numbered did = record { start = numbered.start; at_start = numbered.at_start; is = did_keeps b settled lawful links end near far (w + k * n) numbered.start x y numbered.is did }
 
-  seated : IsSeated (length starts) links names new
-  seated = fared_seated b settled old new fared (length starts) links names (crew_seated b settled starts links end names old of)
+  seated : IsSeated (length starts) links near far new
+  seated = fared_seated b settled old new fared (length starts) links near far (crew_seated b settled starts links end near far old of)
 
   record OnWorker (w : ℕ) : Type 0 where
     before : Work (Part V)
@@ -124,7 +124,7 @@ module _ {V : Type 0} (b : Behaviour V) (settled : V → ℕ → Type 0) (lawful
       let start = there_below starts (w + k * n) (of.dealt w k part within (ap (λ o. slice_get (members_of o) k) here ∙ there)) in
       let has = of.parts (w + k * n) start.0 start.1 in
       let same : has.part ≡ part = same_Some has.part part (sym has.there ∙ at_turn old of.some_worker (length starts) of.dealt w k before here ∙ there) in
-      record { start = start.0; at_start = start.1; is = subst (IsPartOf b settled links end names (w + k * n) start.0) same has.is }
+      record { start = start.0; at_start = start.1; is = subst (IsPartOf b settled links end near far (w + k * n) start.0) same has.is }
 
   on_worker : (w : ℕ) → w < length old → OnWorker w
   on_worker w within =
@@ -138,14 +138,14 @@ module _ {V : Type 0} (b : Behaviour V) (settled : V → ℕ → Type 0) (lawful
   record HasSentAt (c : ℕ) (part : Part V) : Type 0 where
     start : V
     at_start : slice_get starts c ≡ Some start
-    has : HasSent b settled lawful starts links end names of.wired c start part.driver.txs.items
+    has : HasSent b settled lawful starts links end near far of.wired c start part.driver.txs.items
 
-  sent_broken : (c : ℕ) (start : V) (mid : Part V) (fault : MeshBad) (part : Part V) → PartFailed mid fault part → IsPartOf b settled links end names c start mid → HasSent b settled lawful starts links end names of.wired c start part.driver.txs.items
-  sent_broken c start mid _ _ (was_memory part broke) is = broken_sent b settled lawful starts links end names of.wired c start mid part _ is broke
-  sent_broken c start mid _ _ (was_introduction part port found broke) is = broken_sent b settled lawful starts links end names of.wired c start mid part _ is broke
+  sent_broken : (c : ℕ) (start : V) (mid : Part V) (fault : MeshBad) (part : Part V) → PartFailed mid fault part → IsPartOf b settled links end near far c start mid → HasSent b settled lawful starts links end near far of.wired c start part.driver.txs.items
+  sent_broken c start mid _ _ (was_memory part broke) is = broken_sent b settled lawful starts links end near far of.wired c start mid part _ is broke
+  sent_broken c start mid _ _ (was_introduction part port found broke) is = broken_sent b settled lawful starts links end near far of.wired c start mid part _ is broke
 
   sent_after : (w k : ℕ) (part : Part V) → IsAfter b settled (λ j. IsNumbered (w + j * n)) (kept_numbered w) k part → HasSentAt (w + k * n) part
-  sent_after w k part (is_whole numbered) = record { start = numbered.start; at_start = numbered.at_start; has = still_sent b settled lawful starts links end names of.wired (w + k * n) numbered.start part numbered.is }
+  sent_after w k part (is_whole numbered) = record { start = numbered.start; at_start = numbered.at_start; has = still_sent b settled lawful starts links end near far of.wired (w + k * n) numbered.start part numbered.is }
   sent_after w k part (is_broken mid fault numbered failed) = record { start = numbered.start; at_start = numbered.at_start; has = sent_broken (w + k * n) numbered.start mid fault part failed numbered.is }
 
   sent_at : (c : ℕ) (part : Part V) → part_at new c ≡ Some part → HasSentAt c part
@@ -162,8 +162,8 @@ module _ {V : Type 0} (b : Behaviour V) (settled : V → ℕ → Type 0) (lawful
       let one = mapped_some (λ (e : TxEnd). e.seat) (slice_get part.0.driver.txs.items ch.from.port) sender part.2 in
       let sent = sent_at ch.from.component part.0 part.1 in
       let same : sent.start ≡ start = same_Some sent.start start (sym sent.at_start ∙ channel.sender) in
-      let has : HasSent b settled lawful starts links end names of.wired ch.from.component start part.0.driver.txs.items = subst (λ s. HasSent b settled lawful starts links end names of.wired ch.from.component s part.0.driver.txs.items) same sent.has in
-      begins_well b settled lawful starts links end names of.wired k ch at start kind channel part.0.driver.txs.items has one.0 one.1 first more (ap (λ (s : Sender). s.sent) one.2 ∙ is)
+      let has : HasSent b settled lawful starts links end near far of.wired ch.from.component start part.0.driver.txs.items = subst (λ s. HasSent b settled lawful starts links end near far of.wired ch.from.component s part.0.driver.txs.items) same sent.has in
+      begins_well b settled lawful starts links end near far of.wired k ch at start kind channel part.0.driver.txs.items has one.0 one.1 first more (ap (λ (s : Sender). s.sent) one.2 ∙ is)
 
   pub introduced : AreIntroduced b starts links new
   introduced = record { each = each_introduced }
@@ -173,7 +173,7 @@ module _ {V : Type 0} (b : Behaviour V) (settled : V → ℕ → Type 0) (lawful
   cause_of : (c : ℕ) (before : Part V) (fault : MeshBad) (after : Part V) → IsNumbered c before → part_at new c ≡ Some after → PartFailed before fault after → IsCause b starts links new fault
   cause_of c before _ _ numbered there (was_memory after broke) = no_memory
   cause_of c before _ _ numbered there (was_introduction after port found broke) =
-      let wrong : IsWrongAt b settled lawful starts links end names of.wired c after before.arrivals port = wrong_at b settled lawful starts links end names of.wired c numbered.start numbered.at_start before after port found numbered.is broke in
+      let wrong : IsWrongAt b settled lawful starts links end near far of.wired c after before.arrivals port = wrong_at b settled lawful starts links end near far of.wired c numbered.start numbered.at_start before after port found numbered.is broke in
       subst (λ k. IsCause b starts links new (Peer k 0 Intro)) (sym wrong.numbered) (wrong_introduction wrong.number (record {
         channel = wrong.channel;
         at_number = wrong.at_number;
@@ -192,7 +192,7 @@ module _ {V : Type 0} (b : Behaviour V) (settled : V → ℕ → Type 0) (lawful
       let there : part_at new (w + has.place * n) ≡ Some has.after = ap (λ (m : ℕ). part_at new (w + has.place * m)) (sym fared.as_many) ∙ at_turn new seated.some_worker (length starts) seated.no_other w has.place on.after on.at_after ∙ has.there in
       cause_of (w + has.place * n) has.before fault has.after has.was there has.failed
 
-pub is_cause : {V : Type 0} (b : Behaviour V) (settled : V → ℕ → Type 0) (lawful : IsLawful b settled) (starts : List V) (links : List Link) (end : ℕ) (names : List TableId) (old new : List (Work (Part V))) → AllWorked (PartDid b settled) PartFailed (PartFits b settled) old new → IsCrewOf b settled starts links end names old → (fault : MeshBad) → IsFirstKept new (length new) fault → IsCause b starts links new fault
-is_cause {V} b settled lawful starts links end names old new worked of fault first =
+pub is_cause : {V : Type 0} (b : Behaviour V) (settled : V → ℕ → Type 0) (lawful : IsLawful b settled) (starts : List V) (links : List Link) (end : ℕ) (near far : List TableId) (old new : List (Work (Part V))) → AllWorked (PartDid b settled) PartFailed (PartFits b settled) old new → IsCrewOf b settled starts links end near far old → (fault : MeshBad) → IsFirstKept new (length new) fault → IsCause b starts links new fault
+is_cause {V} b settled lawful starts links end near far old new worked of fault first =
     let within : first.place < length old = (let many : length new ≡ length old = worked.as_many in let below : first.place < length new = first.within in omega arith) in
-    cause_at b settled lawful starts links end names old new (all_fared (PartDid b settled) PartFailed (PartFits b settled) old new worked) of first.place within fault (λ (d : Work (Part V)). member_failed (PartDid b settled) PartFailed (get_or old first.place d) (get_or new first.place d) (worked.each first.place d within).went fault (first.kept d))
+    cause_at b settled lawful starts links end near far old new (all_fared (PartDid b settled) PartFailed (PartFits b settled) old new worked) of first.place within fault (λ (d : Work (Part V)). member_failed (PartDid b settled) PartFailed (get_or old first.place d) (get_or new first.place d) (worked.each first.place d within).went fault (first.kept d))

@@ -54,8 +54,8 @@ was_of name moves stays kept ends ends' tried port one there =
 pub element : {X : Type 0} (xs : List X) (i : ℕ) (x d : X) → slice_get xs i ≡ Some x → get_or xs i d ≡ x
 element xs i x d there = same_Some (get_or xs i d) x (sym (slice_get-get_or xs i d (slice_get_within xs i x there)) ∙ there)
 
-module _ {V : Type 0} (b : Behaviour V) (settled : V → ℕ → Type 0) (lawful : IsLawful b settled) (links : List Link) (end : ℕ) (names : List TableId) where
-  pub did_keeps : (c : ℕ) (start : V) (old new : Part V) → IsPartOf b settled links end names c start old → PartDid b settled old new → IsPartOf b settled links end names c start new
+module _ {V : Type 0} (b : Behaviour V) (settled : V → ℕ → Type 0) (lawful : IsLawful b settled) (links : List Link) (end : ℕ) (near far : List TableId) where
+  pub did_keeps : (c : ℕ) (start : V) (old new : Part V) → IsPartOf b settled links end near far c start old → PartDid b settled old new → IsPartOf b settled links end near far c start new
   did_keeps c start old new is did = record {
     component = did.component ∙ is.component;
     stands = turn_stands b settled lawful tx_kind tx_stands rx_kind rx_stands rx_pops rx_empties (λ x y m received popped of. pop_adds x.seat y.seat m received popped of) (λ x y m received popped of. pop_streams x.seat y.seat m received popped of) (λ x y m popped. pop_kind x.seat y.seat m popped) (λ x y received emptied of. empty_keeps x.seat y.seat received emptied of) (λ x y emptied. empty_kind x.seat y.seat emptied) tx_pushes tx_refuses (λ x y m sent pushed of stream. push_adds x.seat y.seat m sent pushed of) (λ x y m pushed. push_kind x.seat y.seat m pushed) (λ x y sent refused of. refusal_keeps x.seat y.seat sent refused of) (λ x y refused. refusal_kind x.seat y.seat refused) start old.driver.runner new.driver.runner old.driver.txs.items new.driver.txs.items old.driver.rxs.items new.driver.rxs.items did.turn is.stands did.turned;
@@ -73,7 +73,7 @@ module _ {V : Type 0} (b : Behaviour V) (settled : V → ℕ → Type 0) (lawful
       tries : AreTried tx_pushes tx_refuses old.driver.txs.items new.driver.txs.items × AreTried rx_pops rx_empties old.driver.rxs.items new.driver.rxs.items
       tries = turn_tries b tx_pushes tx_refuses rx_pops rx_empties old.driver.runner old.driver.txs.items old.driver.rxs.items new.driver.runner new.driver.txs.items new.driver.rxs.items did.turn did.turned
 
-  went_keeps : (c : ℕ) (start : V) (old : Part V) (n : ℕ) (new : Part V) → IsPartOf b settled links end names c start old → Went (PartDid b settled) old n new → IsPartOf b settled links end names c start new
+  went_keeps : (c : ℕ) (start : V) (old : Part V) (n : ℕ) (new : Part V) → IsPartOf b settled links end near far c start old → Went (PartDid b settled) old n new → IsPartOf b settled links end near far c start new
   went_keeps c start old _ _ is stood = is
   went_keeps c start old _ _ is (turned n mid new before last) = did_keeps c start mid new (went_keeps c start old n mid is before) last
 
@@ -129,7 +129,7 @@ module _ {V : Type 0} (b : Behaviour V) (settled : V → ℕ → Type 0) (lawful
         at None e = absurd (none-some part (sym (ap (λ (x : Option (Work (Part V))). slice_get (members_of x) k) e) ∙ there))
         at (Some worker) e = slice_get_within workers w worker e
 
-    part_kept : (c : ℕ) (start : V) → HasPart b settled links end names old c start → HasPart b settled links end names new c start
+    part_kept : (c : ℕ) (start : V) → HasPart b settled links end near far old c start → HasPart b settled links end near far new c start
     part_kept c start has =
         let w : ℕ = c % length old in
         let k : ℕ = c / length old in
@@ -149,7 +149,7 @@ module _ {V : Type 0} (b : Behaviour V) (settled : V → ℕ → Type 0) (lawful
         let before = there_below on.before.members k (let many : length on.after.members ≡ length on.before.members = on.went.as_many in omega arith) in
         subst (λ (n : ℕ). w + k * n < count) (sym worked.as_many) (dealt w k before.0 in_old (ap (λ (x : Option (Work (Part V))). slice_get (members_of x) k) on.at_before ∙ before.1))
 
-    pub crew_kept : (starts : List V) → IsCrewOf b settled starts links end names old → IsCrewOf b settled starts links end names new
+    pub crew_kept : (starts : List V) → IsCrewOf b settled starts links end near far old → IsCrewOf b settled starts links end near far new
     crew_kept starts of = record {
       wired = of.wired;
       some_worker = (let many : length new ≡ length old = worked.as_many in let some : 0 < length old = of.some_worker in omega arith);

@@ -68,21 +68,21 @@ part_ended {V} {P} workers ended c part there = at (slice_get workers (c % lengt
         let all : PassesEnded P worker.members = subst (λ (x : Work (Part V)). PassesEnded P x.members) is (ended.each (c % length workers) worker within) in
         subst P (same_Some _ part (sym (slice_get-get_or worker.members (c / length workers) part within_members) ∙ at_part)) (all.each (c / length workers) part within_members)
 
-module _ {V : Type 0} (b : Behaviour V) (settled : V → ℕ → Type 0) (lawful : IsLawful b settled) (starts : List V) (links : List Link) (end : ℕ) (names : List TableId) (workers : List (Work (Part V))) (of : IsCrewOf b settled starts links end names workers) where
+module _ {V : Type 0} (b : Behaviour V) (settled : V → ℕ → Type 0) (lawful : IsLawful b settled) (starts : List V) (links : List Link) (end : ℕ) (near far : List TableId) (workers : List (Work (Part V))) (of : IsCrewOf b settled starts links end near far workers) where
   abbrev net : Network V
   net = network b starts links
 
   -- WHAT EACH PART STANDS FOR
 
-  abbrev position_of : (c : ℕ) (o : Option V) → ((start : V) → o ≡ Some start → HasPart b settled links end names workers c start) → Position
+  abbrev position_of : (c : ℕ) (o : Option V) → ((start : V) → o ≡ Some start → HasPart b settled links end near far workers c start) → Position
   position_of c None has = None
   position_of c (Some start) has = (has start refl).is.stands.position
 
-  abbrev received_of : (c : ℕ) (o : Option V) → ((start : V) → o ≡ Some start → HasPart b settled links end names workers c start) → ℕ → List Msg
+  abbrev received_of : (c : ℕ) (o : Option V) → ((start : V) → o ≡ Some start → HasPart b settled links end near far workers c start) → ℕ → List Msg
   received_of c None has = λ p. []
   received_of c (Some start) has = (has start refl).is.stands.received
 
-  abbrev sent_of : (c : ℕ) (o : Option V) → ((start : V) → o ≡ Some start → HasPart b settled links end names workers c start) → ℕ → List Msg
+  abbrev sent_of : (c : ℕ) (o : Option V) → ((start : V) → o ≡ Some start → HasPart b settled links end near far workers c start) → ℕ → List Msg
   sent_of c None has = λ p. []
   sent_of c (Some start) has = (has start refl).is.stands.sent
 
@@ -99,12 +99,12 @@ module _ {V : Type 0} (b : Behaviour V) (settled : V → ℕ → Type 0) (lawful
   record IsStandingPart (c : ℕ) (position : Position) (heard said : ℕ → List Msg) (start : V) : Type 0 where
     part : Part V
     there : part_at workers c ≡ Some part
-    is : IsPartOf b settled links end names c start part
+    is : IsPartOf b settled links end near far c start part
     stands : Stands b settled start position heard said part.driver.runner
     txs : (p : ℕ) (one : TxEnd) → slice_get part.driver.txs.items p ≡ Some one → one.seat.sent ≡ said p
     rxs : (p : ℕ) (one : RxEnd) → slice_get part.driver.rxs.items p ≡ Some one → one.seat.received ≡ heard p
 
-  standing_of : (c : ℕ) (o : Option V) (has : (start : V) → o ≡ Some start → HasPart b settled links end names workers c start) (start : V) → o ≡ Some start → IsStandingPart c (position_of c o has) (received_of c o has) (sent_of c o has) start
+  standing_of : (c : ℕ) (o : Option V) (has : (start : V) → o ≡ Some start → HasPart b settled links end near far workers c start) (start : V) → o ≡ Some start → IsStandingPart c (position_of c o has) (received_of c o has) (sent_of c o has) start
   standing_of c None has start is = absurd (none-some start is)
   standing_of c (Some first) has start is = subst (IsStandingPart c (position_of c (Some first) has) (received_of c (Some first) has) (sent_of c (Some first) has)) (same_Some first start is) (record {
     part = (has first refl).part;

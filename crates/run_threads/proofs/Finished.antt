@@ -29,7 +29,7 @@ use Rattle.run_threads.proofs.Seatings.{IsTable, table_of, within_components, ar
 length_turned : {X : Type 0} (xs ys : List X) → reverse xs ≡ ys → length xs ≡ length ys
 length_turned xs ys is = sym (length-reverse xs) ∙ ap length is
 
-module _ {V : Type 0} (components : ℕ) (links : List Link) (names : List TableId) (workers : List (Work (Part V))) (closing : Closing V) (seated : IsSeated components links names workers) (room : HasRoomFor components links closing) where
+module _ {V : Type 0} (components : ℕ) (links : List Link) (near far : List TableId) (workers : List (Work (Part V))) (closing : Closing V) (seated : IsSeated components links near far workers) (room : HasRoomFor components links closing) where
   table : IsTable (part_at workers) components
   table = table_of (part_at workers) components seated.each
 
@@ -53,17 +53,17 @@ module _ {V : Type 0} (components : ℕ) (links : List Link) (names : List Table
     room_for_runners = subst (λ n. n ≤ vec_capacity closing.runners) (sym many_parts) room.for_runners
 
     pub own_departures : (bound : ℕ) → bound ≡ length closing.senders.items → HaveOwnPlaces departures_of txs_of bound (reverse parts)
-    own_departures bound is = subst (HaveOwnPlaces departures_of txs_of bound) (sym all_is) (own_places txs_of departures_of tx_name (λ (ch : Channel). ch.from) links names workers seated.sending components table bound (is ∙ room.slots_to_send))
+    own_departures bound is = subst (HaveOwnPlaces departures_of txs_of bound) (sym all_is) (own_places txs_of departures_of tx_name (λ (ch : Channel). ch.from) links near workers seated.sending components table bound (is ∙ room.slots_to_send))
 
     pub own_arrivals : (bound : ℕ) → bound ≡ length closing.receivers.items → HaveOwnPlaces arrivals_of rxs_of bound (reverse parts)
-    own_arrivals bound is = subst (HaveOwnPlaces arrivals_of rxs_of bound) (sym all_is) (own_places rxs_of arrivals_of rx_name (λ (ch : Channel). ch.to) links names workers seated.receiving components table bound (is ∙ room.slots_to_receive))
+    own_arrivals bound is = subst (HaveOwnPlaces arrivals_of rxs_of bound) (sym all_is) (own_places rxs_of arrivals_of rx_name (λ (ch : Channel). ch.to) links far workers seated.receiving components table bound (is ∙ room.slots_to_receive))
 
     module _ (senders : List (Option TxEnd)) (sending : AreBack departures_of txs_of (reverse parts) senders) (to_send : length senders ≡ length closing.senders.items) where
       sent_back : AreBack departures_of txs_of table.all senders
       sent_back = subst (λ l. AreBack departures_of txs_of l senders) all_is sending
 
       pub senders_filled : AreFilled senders
-      senders_filled = are_filled txs_of departures_of tx_name (λ (ch : Channel). ch.from) links names workers seated.sending components table within senders sent_back (to_send ∙ room.slots_to_send)
+      senders_filled = are_filled txs_of departures_of tx_name (λ (ch : Channel). ch.from) links near workers seated.sending components table within senders sent_back (to_send ∙ room.slots_to_send)
 
       pub room_for_producers : length senders ≤ vec_capacity closing.producers
       room_for_producers = subst (λ n. n ≤ vec_capacity closing.producers) (sym (to_send ∙ room.slots_to_send)) room.for_producers
@@ -72,20 +72,20 @@ module _ {V : Type 0} (components : ℕ) (links : List Link) (names : List Table
         producer_there : (k : ℕ) (ch : Channel) → slice_get (channels links) k ≡ Some ch → slice_get producers k ≡ sender_at workers ch.from
         producer_there k ch at =
             let end = seated.sending.of_channel k ch at in
-            side_there txs_of departures_of tx_name (λ (x : Channel). x.from) links names workers seated.sending components table within senders sent_back (λ (e : TxEnd). e.seat) producers seats k ch at ∙ sym (ap (λ (o : Option (Part V)). option_and_then (λ part. option_map (λ (e : TxEnd). e.seat) (slice_get part.driver.txs.items ch.from.port)) o) end.there ∙ ap (option_map (λ (e : TxEnd). e.seat)) end.here)
+            side_there txs_of departures_of tx_name (λ (x : Channel). x.from) links near workers seated.sending components table within senders sent_back (λ (e : TxEnd). e.seat) producers seats k ch at ∙ sym (ap (λ (o : Option (Part V)). option_and_then (λ part. option_map (λ (e : TxEnd). e.seat) (slice_get part.driver.txs.items ch.from.port)) o) end.there ∙ ap (option_map (λ (e : TxEnd). e.seat)) end.here)
 
         producer_each : length producers ≡ length (channels links)
-        producer_each = many_sides txs_of departures_of tx_name (λ (x : Channel). x.from) links names workers seated.sending components table within senders sent_back (λ (e : TxEnd). e.seat) producers seats (to_send ∙ room.slots_to_send)
+        producer_each = many_sides txs_of departures_of tx_name (λ (x : Channel). x.from) links near workers seated.sending components table within senders sent_back (λ (e : TxEnd). e.seat) producers seats (to_send ∙ room.slots_to_send)
 
-        producer_named : (k : ℕ) (one : Sender) → slice_get producers k ≡ Some one → slice_get names k ≡ Some one.queue
-        producer_named k one at = side_named txs_of departures_of tx_name (λ (x : Channel). x.from) links names workers seated.sending components table within senders sent_back (λ (e : TxEnd). e.seat) producers seats (λ (s : Sender). s.queue) (λ e. refl) (to_send ∙ room.slots_to_send) k one at
+        producer_named : (k : ℕ) (one : Sender) → slice_get producers k ≡ Some one → slice_get near k ≡ Some one.queue
+        producer_named k one at = side_named txs_of departures_of tx_name (λ (x : Channel). x.from) links near workers seated.sending components table within senders sent_back (λ (e : TxEnd). e.seat) producers seats (λ (s : Sender). s.queue) (λ e. refl) (to_send ∙ room.slots_to_send) k one at
 
     module _ (receivers : List (Option RxEnd)) (receiving : AreBack arrivals_of rxs_of (reverse parts) receivers) (to_receive : length receivers ≡ length closing.receivers.items) where
       received_back : AreBack arrivals_of rxs_of table.all receivers
       received_back = subst (λ l. AreBack arrivals_of rxs_of l receivers) all_is receiving
 
       pub receivers_filled : AreFilled receivers
-      receivers_filled = are_filled rxs_of arrivals_of rx_name (λ (ch : Channel). ch.to) links names workers seated.receiving components table within receivers received_back (to_receive ∙ room.slots_to_receive)
+      receivers_filled = are_filled rxs_of arrivals_of rx_name (λ (ch : Channel). ch.to) links far workers seated.receiving components table within receivers received_back (to_receive ∙ room.slots_to_receive)
 
       pub room_for_consumers : length receivers ≤ vec_capacity closing.consumers
       room_for_consumers = subst (λ n. n ≤ vec_capacity closing.consumers) (sym (to_receive ∙ room.slots_to_receive)) room.for_consumers
@@ -94,13 +94,13 @@ module _ {V : Type 0} (components : ℕ) (links : List Link) (names : List Table
         consumer_there : (k : ℕ) (ch : Channel) → slice_get (channels links) k ≡ Some ch → slice_get consumers k ≡ receiver_at workers ch.to
         consumer_there k ch at =
             let end = seated.receiving.of_channel k ch at in
-            side_there rxs_of arrivals_of rx_name (λ (x : Channel). x.to) links names workers seated.receiving components table within receivers received_back (λ (e : RxEnd). e.seat) consumers seats k ch at ∙ sym (ap (λ (o : Option (Part V)). option_and_then (λ part. option_map (λ (e : RxEnd). e.seat) (slice_get part.driver.rxs.items ch.to.port)) o) end.there ∙ ap (option_map (λ (e : RxEnd). e.seat)) end.here)
+            side_there rxs_of arrivals_of rx_name (λ (x : Channel). x.to) links far workers seated.receiving components table within receivers received_back (λ (e : RxEnd). e.seat) consumers seats k ch at ∙ sym (ap (λ (o : Option (Part V)). option_and_then (λ part. option_map (λ (e : RxEnd). e.seat) (slice_get part.driver.rxs.items ch.to.port)) o) end.there ∙ ap (option_map (λ (e : RxEnd). e.seat)) end.here)
 
         consumer_each : length consumers ≡ length (channels links)
-        consumer_each = many_sides rxs_of arrivals_of rx_name (λ (x : Channel). x.to) links names workers seated.receiving components table within receivers received_back (λ (e : RxEnd). e.seat) consumers seats (to_receive ∙ room.slots_to_receive)
+        consumer_each = many_sides rxs_of arrivals_of rx_name (λ (x : Channel). x.to) links far workers seated.receiving components table within receivers received_back (λ (e : RxEnd). e.seat) consumers seats (to_receive ∙ room.slots_to_receive)
 
-        consumer_named : (k : ℕ) (one : Receiver) → slice_get consumers k ≡ Some one → slice_get names k ≡ Some one.queue
-        consumer_named k one at = side_named rxs_of arrivals_of rx_name (λ (x : Channel). x.to) links names workers seated.receiving components table within receivers received_back (λ (e : RxEnd). e.seat) consumers seats (λ (s : Receiver). s.queue) (λ e. refl) (to_receive ∙ room.slots_to_receive) k one at
+        consumer_named : (k : ℕ) (one : Receiver) → slice_get consumers k ≡ Some one → slice_get far k ≡ Some one.queue
+        consumer_named k one at = side_named rxs_of arrivals_of rx_name (λ (x : Channel). x.to) links far workers seated.receiving components table within receivers received_back (λ (e : RxEnd). e.seat) consumers seats (λ (s : Receiver). s.queue) (λ e. refl) (to_receive ∙ room.slots_to_receive) k one at
 
     module _ (runners : List (Runner V)) (runners_are : runners ≡ map runner_of (reverse parts)) where
       runners_so : runners ≡ map runner_of table.all
@@ -129,7 +129,7 @@ module _ {V : Type 0} (components : ℕ) (links : List Link) (names : List Table
           receivers_are = consumer_there receivers receiving to_receive consumers ins;
         }
 
-        pub are_seats : AreSeats links names producers consumers
+        pub are_seats : AreSeats links near far producers consumers
         are_seats = record {
           sender_each = producer_each senders sending to_send producers outs;
           receiver_each = consumer_each receivers receiving to_receive consumers ins;

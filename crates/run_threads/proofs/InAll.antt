@@ -72,7 +72,7 @@ module _ {V : Type 0} (b : Behaviour V) (settled : V → ℕ → Type 0) (kinds 
         let by_ports : IsPlaced queues (froms_of links) (tos_of links) c (length (b.ports r.device)) r before after = subst (λ n. IsPlaced queues (froms_of links) (tos_of links) c n r before after) is by_tos in
         part_more b settled lawful starts links end wired_so at_start queues queues_so c r.device before after (start_there b links end all new c r there) so_far (subst (λ x. IsPlaced queues (froms_of links) (tos_of links) c (length (b.ports r.device)) x before after) (is_first b links end all new c r there) by_ports)
 
-    pub all_made : (count : ℕ) (workers : List (Work (Part V))) → HaveParts b starts links end queues count workers → count ≡ length all → IsCrewOf b settled starts links end names workers
+    pub all_made : (count : ℕ) (workers : List (Work (Part V))) → HaveParts b starts links end queues count workers → count ≡ length all → IsCrewOf b settled starts links end names names workers
     all_made count workers have is = all_parts b settled lawful starts links end wired_so at_start queues queues_so count workers have (is ∙ sym (length-map all (λ r. r.device)))
 
     pub all_unused : (count : ℕ) (workers : List (Work (Part V))) → HaveParts b starts links end queues count workers → count ≡ length all → IsNewCrew b starts links end queues workers

@@ -112,7 +112,7 @@ into_by : {V : Type 0} (ports : List PortKind) (r : Runner V) (received : ℕ �
 into_by ports r received rxs _ (as_received ends) = tt
 into_by ports r received rxs _ (wrongly_introduced port found none wrong ends) = record { wrong = wrong; ends = ends }
 
-module _ {V : Type 0} (b : Behaviour V) (settled : V → ℕ → Type 0) (lawful : IsLawful b settled) (starts : List V) (links : List Link) (end : ℕ) (names : List TableId) (wired : IsPlan end (map b.ports starts) links) where
+module _ {V : Type 0} (b : Behaviour V) (settled : V → ℕ → Type 0) (lawful : IsLawful b settled) (starts : List V) (links : List Link) (end : ℕ) (near far : List TableId) (wired : IsPlan end (map b.ports starts) links) where
   -- WHAT WAS SENT
 
   -- a runner stands that has sent what the sending ends have
@@ -125,7 +125,7 @@ module _ {V : Type 0} (b : Behaviour V) (settled : V → ℕ → Type 0) (lawful
     pub plans : map (λ (o : Out). o.plan) runner.outgoing ≡ plans_of links c (b.ports start)
     pub out : TxsStand tx_kind tx_stands (b.ports start) sent txs
 
-  pub still_sent : (c : ℕ) (start : V) (part : Part V) → IsPartOf b settled links end names c start part → HasSent c start part.driver.txs.items
+  pub still_sent : (c : ℕ) (start : V) (part : Part V) → IsPartOf b settled links end near far c start part → HasSent c start part.driver.txs.items
   still_sent c start part is = record {
     runner = part.driver.runner;
     position = is.stands.position;
@@ -136,7 +136,7 @@ module _ {V : Type 0} (b : Behaviour V) (settled : V → ℕ → Type 0) (lawful
     out = is.stands.out;
   }
 
-  pub broken_sent : (c : ℕ) (start : V) (old new : Part V) (bad : RunBad) → IsPartOf b settled links end names c start old → PartBroke old new bad → HasSent c start new.driver.txs.items
+  pub broken_sent : (c : ℕ) (start : V) (old new : Part V) (bad : RunBad) → IsPartOf b settled links end near far c start old → PartBroke old new bad → HasSent c start new.driver.txs.items
   broken_sent c start old new bad is broke =
       let made : SentIn old.driver.runner old.driver.txs.items new.driver.txs.items = sent_in old.driver.runner old.driver.txs.items old.driver.rxs.items new.driver.runner new.driver.txs.items new.driver.rxs.items bad broke.failed in
       let now : SentOn b settled tx_kind tx_stands start is.stands.position is.stands.received made.mid new.driver.txs.items = sends_stand b settled lawful tx_kind tx_stands start is.stands.position is.stands.received tx_pushes tx_refuses (λ x y m sent pushed of stream. push_adds x.seat y.seat m sent pushed of) (λ x y m pushed. push_kind x.seat y.seat m pushed) (λ x y sent refused of. refusal_keeps x.seat y.seat sent refused of) (λ x y refused. refusal_kind x.seat y.seat refused) old.driver.runner old.driver.txs.items (record { sent = is.stands.sent; runner = is.stands.runner; ends = is.stands.out }) (length old.driver.txs.items) made.sends made.mid new.driver.txs.items made.ran in
@@ -194,7 +194,7 @@ module _ {V : Type 0} (b : Behaviour V) (settled : V → ℕ → Type 0) (lawful
     pub received : one.seat.received ≡ found ∷ []
     pub wrong : (from : V) (kind : PortKind) → IsChannel (network b starts links) channel from kind → found ≡ introduction kind channel → ⊥
 
-  module _ (c : ℕ) (start : V) (here : slice_get starts c ≡ Some start) (old new : Part V) (port : ℕ) (found : Msg) (is : IsPartOf b settled links end names c start old) (broke : PartBroke old new (WrongIntro port found)) where
+  module _ (c : ℕ) (start : V) (here : slice_get starts c ≡ Some start) (old new : Part V) (port : ℕ) (found : Msg) (is : IsPartOf b settled links end near far c start old) (broke : PartBroke old new (WrongIntro port found)) where
     failed : FailedFrom b settled tx_kind tx_stands rx_kind rx_stands start old.driver.runner new.driver.txs.items new.driver.rxs.items (WrongIntro port found)
     failed = failure_stands b settled lawful tx_kind tx_stands rx_kind rx_stands rx_pops rx_empties (λ x y m received popped of. pop_adds x.seat y.seat m received popped of) (λ x y m received popped of. pop_streams x.seat y.seat m received popped of) (λ x y m popped. pop_kind x.seat y.seat m popped) (λ x y received emptied of. empty_keeps x.seat y.seat received emptied of) (λ x y emptied. empty_kind x.seat y.seat emptied) tx_pushes tx_refuses (λ x y m sent pushed of stream. push_adds x.seat y.seat m sent pushed of) (λ x y m pushed. push_kind x.seat y.seat m pushed) (λ x y sent refused of. refusal_keeps x.seat y.seat sent refused of) (λ x y refused. refusal_kind x.seat y.seat refused) start old.driver.runner old.driver.txs.items old.driver.rxs.items is.stands new.driver.runner new.driver.txs.items new.driver.rxs.items (WrongIntro port found) broke.failed
 

@@ -60,8 +60,8 @@ module _ {V : Type 0} (b : Behaviour V) (settled : V → ℕ → Type 0) (lawful
           subst (λ p. IsFirstPart b links end queues c s p) same_part (subst (λ x. IsFirstPart b links end queues c x placed.part) same_start (subst (λ n. IsFirstPart b links end queues n start placed.part) (sym is) placed.made))
       by c s part at got false e = so_far.each c s part at (sym (get_other so_far.parts placed.part c (λ same. eqb-false c count e (same ∙ so_far.as_many))) ∙ got)
 
-  pub all_parts : (count : ℕ) (workers : List (Work (Part V))) → HaveParts b starts links end queues count workers → count ≡ length starts → IsCrewOf b settled starts links end names workers
-  all_parts count workers have all = is_crew b settled starts links end names workers have.parts have.dealt (have.as_many ∙ all) (λ c start part at got. is_part_of b starts links end wired c start at settled lawful at_start queues queues_are part (have.each c start part at got)) wired
+  pub all_parts : (count : ℕ) (workers : List (Work (Part V))) → HaveParts b starts links end queues count workers → count ≡ length starts → IsCrewOf b settled starts links end names names workers
+  all_parts count workers have all = is_crew b settled starts links end names names workers have.parts have.dealt (have.as_many ∙ all) (λ c start part at got. is_part_of b starts links end wired c start at settled lawful at_start queues queues_are part (have.each c start part at got)) wired
 
   pub all_new : (count : ℕ) (workers : List (Work (Part V))) → HaveParts b starts links end queues count workers → count ≡ length starts → IsNewCrew b starts links end queues workers
   all_new count workers have all = record { each = each }

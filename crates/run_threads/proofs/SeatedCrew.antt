@@ -28,22 +28,22 @@ channel_of side links c p has =
     let found = mapped_at (λ (ch : Channel). seat_of (side ch)) (channels links) (map (λ (ch : Channel). seat_of (side ch)) (channels links)) has.number (seat c p) refl has.there in
     record { number = has.number; channel = found.0; at_number = found.1; component_is = ap (λ (s : Seat). s.component) found.2; port_is = ap (λ (s : Seat). s.port) found.2 }
 
-module _ {V : Type 0} (b : Behaviour V) (settled : V → ℕ → Type 0) (starts : List V) (links : List Link) (end : ℕ) (names : List TableId) (workers : List (Work (Part V))) (of : IsCrewOf b settled starts links end names workers) where
+module _ {V : Type 0} (b : Behaviour V) (settled : V → ℕ → Type 0) (starts : List V) (links : List Link) (end : ℕ) (near far : List TableId) (workers : List (Work (Part V))) (of : IsCrewOf b settled starts links end near far workers) where
   abbrev net : Network V
   net = network b starts links
 
   record IsPartHere (c : ℕ) (part : Part V) : Type 0 where
     start : V
     at_start : slice_get starts c ≡ Some start
-    is : IsPartOf b settled links end names c start part
+    is : IsPartOf b settled links end near far c start part
 
   part_here : (c : ℕ) (part : Part V) → part_at workers c ≡ Some part → IsPartHere c part
   part_here c part there =
       let start = there_below starts c (within_components workers of.some_worker (length starts) of.dealt c part there) in
       let has = of.parts c start.0 start.1 in
-      record { start = start.0; at_start = start.1; is = subst (IsPartOf b settled links end names c start.0) (same_Some has.part part (sym has.there ∙ there)) has.is }
+      record { start = start.0; at_start = start.1; is = subst (IsPartOf b settled links end near far c start.0) (same_Some has.part part (sym has.there ∙ there)) has.is }
 
-  sends : (k : ℕ) (ch : Channel) → slice_get (channels links) k ≡ Some ch → HasEnd txs_of departures_of tx_name names workers ch.from k
+  sends : (k : ℕ) (ch : Channel) → slice_get (channels links) k ≡ Some ch → HasEnd txs_of departures_of tx_name near workers ch.from k
   sends k ch at =
       let own : IsOwned net ch.from = owned net ch.from (channel_joined net of.wired k ch at).at_sender in
       let has = of.parts ch.from.component own.start own.owner in
@@ -51,7 +51,7 @@ module _ {V : Type 0} (b : Behaviour V) (settled : V → ℕ → Type 0) (starts
       let one = there_below has.part.driver.txs.items ch.from.port port in
       record { part = has.part; there = has.there; one = one.0; here = one.1; numbered = has.is.departs k ch at refl; named = has.is.sends_on k ch one.0 at refl one.1 }
 
-  receives : (k : ℕ) (ch : Channel) → slice_get (channels links) k ≡ Some ch → HasEnd rxs_of arrivals_of rx_name names workers ch.to k
+  receives : (k : ℕ) (ch : Channel) → slice_get (channels links) k ≡ Some ch → HasEnd rxs_of arrivals_of rx_name far workers ch.to k
   receives k ch at =
       let own : IsOwned net ch.to = owned net ch.to (channel_joined net of.wired k ch at).at_receiver in
       let has = of.parts ch.to.component own.start own.owner in
@@ -71,7 +71,7 @@ module _ {V : Type 0} (b : Behaviour V) (settled : V → ℕ → Type 0) (starts
       let within : p < length (b.ports here.start) = (let many : length part.driver.rxs.items ≡ length (b.ports here.start) = here.is.stands.into.as_many in omega arith) in
       channel_of (λ (ch : Channel). ch.to) links c p ((have_tos b starts links end of.wired c here.start here.at_start).each p within)
 
-  pub crew_seated : IsSeated (length starts) links names workers
+  pub crew_seated : IsSeated (length starts) links near far workers
   crew_seated = record {
     some_worker = of.some_worker;
     each = λ c below. (let start = there_below starts c below in let has = of.parts c start.0 start.1 in (has.part, has.there));

@@ -186,12 +186,12 @@ module _ {V : Type 0} (b : Behaviour V) (settled : V → ℕ → Type 0) where
             are.of_part c p was.0 was.1 (let many : length (ends_of is.0) ≡ length (ends_of was.0) = (ends was.0 is.0 is.2).as_many in let within : p < length (ends_of is.0) = subst (λ x. p < length (ends_of x)) (sym same) below in omega arith)
 
     pub fared_seated : StaysSeated old new
-    fared_seated components links names seated = record {
+    fared_seated components links near far seated = record {
       some_worker = (let many : length new ≡ length old = fared.as_many in let some : 0 < length old = seated.some_worker in omega arith);
       each = λ c below. (let was = seated.each c below in let is = part_stays c was.0 was.1 in (is.0, is.1));
       no_other = λ w k part within there. (let in_old : w < length old = (let many : length new ≡ length old = fared.as_many in omega arith) in let was = member_was w k part in_old there in subst (λ (n : ℕ). w + k * n < components) (sym fared.as_many) (seated.no_other w k was.0 in_old was.1));
-      sending = at_ports txs_of departures_of seating.tx_name (λ (ch : Channel). ch.from) links names seated.some_worker (λ x y stays. stays.departures) (λ x y stays. stays.sending) seated.sending;
-      receiving = at_ports rxs_of arrivals_of seating.rx_name (λ (ch : Channel). ch.to) links names seated.some_worker (λ x y stays. stays.arrivals) (λ x y stays. stays.receiving) seated.receiving;
+      sending = at_ports txs_of departures_of seating.tx_name (λ (ch : Channel). ch.from) links near seated.some_worker (λ x y stays. stays.departures) (λ x y stays. stays.sending) seated.sending;
+      receiving = at_ports rxs_of arrivals_of seating.rx_name (λ (ch : Channel). ch.to) links far seated.some_worker (λ x y stays. stays.arrivals) (λ x y stays. stays.receiving) seated.receiving;
     }
 
   pub stays_seated : (old new : List (Work (Part V))) → AllWorked (PartDid b settled) PartFailed (PartFits b settled) old new → StaysSeated old new

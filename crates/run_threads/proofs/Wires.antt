@@ -32,7 +32,7 @@ use Rattle.run_threads.specs.declared.part.Part.{Part}
 use Rattle.run_threads.specs.CrewOf.{IsPartOf}
 use Rattle.run_threads.specs.Numbers.{seat, HaveNumbers, AreNumbers}
 use Rattle.run_threads.specs.Parts.{PartStands}
-use Rattle.run_threads.specs.Queues.{as_empty, its_sender, its_receiver}
+use Rattle.run_threads.specs.Queues.{as_empty, names_of, its_sender, its_receiver}
 use Rattle.run_threads.specs.Stock.{froms_of, tos_of, IsFresh, IsNewPart}
 
 map_same : {X : Type 0} (xs : List X) → map (λ x. x) xs ≡ xs
@@ -142,7 +142,7 @@ module _ {V : Type 0} (b : Behaviour V) (starts : List V) (links : List Link) (e
         };
       }
 
-      pub is_part_of : IsPartOf b settled links end (map (λ (q : Named). q.name) queues) c start part
+      pub is_part_of : IsPartOf b settled links end (names_of queues) (names_of queues) c start part
       is_part_of = record {
         component = new.component_is;
         stands = new_part_stands;

@@ -35,11 +35,11 @@ receiver_at workers at = option_and_then
     (λ part. option_map (λ (end : RxEnd). end.seat) (slice_get part.driver.rxs.items at.port))
     (part_at workers at.component)
 
--- the part of a component that started in this state: its ends are those of its channels' queues,
--- whose names are told by
--- the numbers of the channels
+-- the part of a component that started in this state: its sending ends are those of its channels'
+-- near queues, and its receiving ends those of the far ones, whose names are told by the numbers of
+-- the channels. The two are one where a channel goes by queue
 pub record IsPartOf {V : Type 0} (b : Behaviour V) (settled : V → ℕ → Type 0) (links : List Link)
-    (end : ℕ) (names : List TableId) (c : ℕ) (start : V) (part : Part V) : Type 0 where
+    (end : ℕ) (near far : List TableId) (c : ℕ) (start : V) (part : Part V) : Type 0 where
   pub component : part.component ≡ c
   pub stands : PartStands b settled start part
   pub end_is : part.driver.runner.end ≡ end
@@ -51,29 +51,29 @@ pub record IsPartOf {V : Type 0} (b : Behaviour V) (settled : V → ℕ → Type
       → ch.to.component ≡ c → slice_get part.arrivals ch.to.port ≡ Some k
   pub sends_on : (k : ℕ) (ch : Channel) (one : TxEnd) → slice_get (channels links) k ≡ Some ch
       → ch.from.component ≡ c → slice_get part.driver.txs.items ch.from.port ≡ Some one
-      → slice_get names k ≡ Some one.seat.queue
+      → slice_get near k ≡ Some one.seat.queue
   pub receives_on : (k : ℕ) (ch : Channel) (one : RxEnd) → slice_get (channels links) k ≡ Some ch
       → ch.to.component ≡ c → slice_get part.driver.rxs.items ch.to.port ≡ Some one
-      → slice_get names k ≡ Some one.seat.queue
+      → slice_get far k ≡ Some one.seat.queue
 
 -- a component has its place on a worker
 pub record HasPart {V : Type 0} (b : Behaviour V) (settled : V → ℕ → Type 0) (links : List Link)
-    (end : ℕ) (names : List TableId) (workers : List (Work (Part V))) (c : ℕ)
+    (end : ℕ) (near far : List TableId) (workers : List (Work (Part V))) (c : ℕ)
     (start : V) : Type 0 where
   pub part : Part V
   pub there : part_at workers c ≡ Some part
-  pub is : IsPartOf b settled links end names c start part
+  pub is : IsPartOf b settled links end near far c start part
 
 -- the workers of a run of devices that started in these states, joined by these links, until `end`,
--- by queues of these names
+-- by near and far queues of these names
 pub record IsCrewOf {V : Type 0} (b : Behaviour V) (settled : V → ℕ → Type 0) (starts : List V)
-    (links : List Link) (end : ℕ) (names : List TableId)
+    (links : List Link) (end : ℕ) (near far : List TableId)
     (workers : List (Work (Part V))) : Type 0 where
   pub wired : IsPlan end (map b.ports starts) links
   pub some_worker : 0 < length workers
   pub sound : AreSound (PartFits b settled) workers
   pub parts : (c : ℕ) (start : V) → slice_get starts c ≡ Some start
-      → HasPart b settled links end names workers c start
+      → HasPart b settled links end near far workers c start
   -- and no other
   pub dealt : (w k : ℕ) (part : Part V) → w < length workers
       → slice_get (members_of (slice_get workers w)) k ≡ Some part

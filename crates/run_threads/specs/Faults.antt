@@ -48,11 +48,11 @@ pub data IsCause {V : Type 0} (b : Behaviour V) (starts : List V) (links : List 
 abbrev pub LeavesIntroductions : {V : Type 0} → Behaviour V → (V → ℕ → Type 0)
     → List (Work (Part V)) → List (Work (Part V)) → Type 0
 LeavesIntroductions {V} b settled old new = (starts : List V) (links : List Link) (end : ℕ)
-    (names : List TableId) → IsCrewOf b settled starts links end names old
+    (near far : List TableId) → IsCrewOf b settled starts links end near far old
     → AreIntroduced b starts links new
 
 abbrev pub TellsCause : {V : Type 0} → Behaviour V → (V → ℕ → Type 0)
     → List (Work (Part V)) → List (Work (Part V)) → MeshBad → Type 0
 TellsCause {V} b settled old new fault = (starts : List V) (links : List Link) (end : ℕ)
-    (names : List TableId) → IsCrewOf b settled starts links end names old
+    (near far : List TableId) → IsCrewOf b settled starts links end near far old
     → IsCause b starts links new fault

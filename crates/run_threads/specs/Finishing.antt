@@ -16,8 +16,9 @@ use Rattle.run_threads.specs.Seating.{IsSeated, AreSeats}
 pub record MayFinish {V : Type 0} (workers : List (Work (Part V))) (closing : Closing V) : Type 0 where
   pub components : ℕ
   pub links : List Link
-  pub names : List TableId
-  pub seated : IsSeated components links names workers
+  pub near : List TableId
+  pub far : List TableId
+  pub seated : IsSeated components links near far workers
   pub room : HasRoomFor components links closing
 
 -- what it leaves, and that the sides are seats of the queues in their order, whatever system it is
@@ -25,9 +26,9 @@ pub record MayFinish {V : Type 0} (workers : List (Work (Part V))) (closing : Cl
 pub record HasFinished {V : Type 0} (workers : List (Work (Part V))) (closing : Closing V)
     (logs : List (List Line)) (counts : List Count) (senders : List Sender)
     (receivers : List Receiver) : Type 0 where
-  pub left : (components : ℕ) (links : List Link) (names : List TableId)
-      → IsSeated components links names workers → HasRoomFor components links closing
+  pub left : (components : ℕ) (links : List Link) (near far : List TableId)
+      → IsSeated components links near far workers → HasRoomFor components links closing
       → IsLeft components links workers logs counts senders receivers
-  pub seats : (components : ℕ) (links : List Link) (names : List TableId)
-      → IsSeated components links names workers → HasRoomFor components links closing
-      → AreSeats links names senders receivers
+  pub seats : (components : ℕ) (links : List Link) (near far : List TableId)
+      → IsSeated components links near far workers → HasRoomFor components links closing
+      → AreSeats links near far senders receivers

@@ -31,8 +31,8 @@ HaveEnded {V} b workers = AllEnded (λ (part : Part V). HasEnded b part.driver.r
 abbrev pub StaysCrew : {V : Type 0} → Behaviour V → (V → ℕ → Type 0) → List (Work (Part V))
     → List (Work (Part V)) → Type 0
 StaysCrew {V} b settled old new = (starts : List V) (links : List Link) (end : ℕ)
-    (names : List TableId) → IsCrewOf b settled starts links end names old
-    → IsCrewOf b settled starts links end names new
+    (near far : List TableId) → IsCrewOf b settled starts links end near far old
+    → IsCrewOf b settled starts links end near far new
 
 abbrev pub RoundsKeepIt : {V : Type 0} → Behaviour V → (V → ℕ → Type 0) → Type 0
 RoundsKeepIt {V} b settled = (old new : List (Work (Part V))) → AllWent b settled old new
@@ -59,8 +59,8 @@ WhateverComes {V} b settled = (old new : List (Work (Part V))) → AllCame b set
 
 -- what a crew leaves whose components have ended and whose channels have delivered
 abbrev pub LeavesRun : {V : Type 0} → Behaviour V → (V → ℕ → Type 0) → Type 0
-LeavesRun {V} b settled = (starts : List V) (links : List Link) (end : ℕ) (names : List TableId)
-    (workers : List (Work (Part V))) → IsCrewOf b settled starts links end names workers
+LeavesRun {V} b settled = (starts : List V) (links : List Link) (end : ℕ) (near far : List TableId)
+    (workers : List (Work (Part V))) → IsCrewOf b settled starts links end near far workers
     → HaveEnded b workers → (logs : List (List Line)) (counts : List Count)
     (senders : List Sender) (receivers : List Receiver)
     → IsLeft (length starts) links workers logs counts senders receivers
@@ -68,9 +68,9 @@ LeavesRun {V} b settled = (starts : List V) (links : List Link) (end : ℕ) (nam
 
 -- a crew's parts are seated for its system
 abbrev pub AreSeated : {V : Type 0} → Behaviour V → (V → ℕ → Type 0) → Type 0
-AreSeated {V} b settled = (starts : List V) (links : List Link) (end : ℕ) (names : List TableId)
-    (workers : List (Work (Part V))) → IsCrewOf b settled starts links end names workers
-    → IsSeated (length starts) links names workers
+AreSeated {V} b settled = (starts : List V) (links : List Link) (end : ℕ) (near far : List TableId)
+    (workers : List (Work (Part V))) → IsCrewOf b settled starts links end near far workers
+    → IsSeated (length starts) links near far workers
 
 -- what rounds leave on the channels, and the cause of a fault that they met
 abbrev pub RoundsIntroduce : {V : Type 0} → Behaviour V → (V → ℕ → Type 0) → Type 0

@@ -1,5 +1,6 @@
 -- The queues of a run and their two sides, by the numbers of the channels.
 use Rattle.std.specs.Prelude.{ℕ, ◌≡◌, List, [], ◌∷◌, ◌++◌, map}
+use Rattle.atomic_table.specs.Seated.{TableId}
 use Rattle.cs_base.specs.declared.link.Link.{Link}
 use Rattle.cs_base.specs.declared.port_kind.PortKind.{PortKind}
 use Rattle.mesh_core.specs.Start.{queues_of}
@@ -9,6 +10,10 @@ use Rattle.slot_queue.specs.Ends.{Named, Sender, Receiver, new_sender, new_recei
 -- a queue with nothing in it: the kind of its receiver's port, and its number of slots
 abbrev pub as_empty : Named → Plain
 as_empty queue = record { kind = queue.kind; slots = queue.name.slots; held = [] }
+
+-- the names of queues
+abbrev pub names_of : List Named → List TableId
+names_of queues = map (λ (queue : Named). queue.name) queues
 
 -- the two sides of a queue of which nothing was used
 abbrev pub its_sender : Named → Sender

@@ -1,5 +1,5 @@
--- Which part sits where on the workers, and that its ends are those of its channels' queues. Of this
--- nothing changes, whatever the turns of the parts do or meet.
+-- Which part sits where on the workers, and that its ends are those of its channels' near and far
+-- queues. Of this nothing changes, whatever the turns of the parts do or meet.
 use Rattle.std.specs.Prelude.{ℕ, ◌≡◌, ◌+◌, ◌*◌, ◌<◌, List, length, slice_get, Some}
 use Rattle.atomic_table.specs.Seated.{TableId}
 use Rattle.cs_base.specs.declared.link.Link.{Link}
@@ -49,30 +49,32 @@ pub record AreAtPorts {V E : Type 0} (ends_of : Part V → List E) (numbers_of :
   pub of_part : (c p : ℕ) (part : Part V) → part_at workers c ≡ Some part
       → p < length (ends_of part) → HasChannel side links c p
 
--- the workers of so many components, joined by these links by queues of these names
-pub record IsSeated {V : Type 0} (components : ℕ) (links : List Link) (names : List TableId)
+-- the workers of so many components, joined by these links by near and far queues of these names
+pub record IsSeated {V : Type 0} (components : ℕ) (links : List Link) (near far : List TableId)
     (workers : List (Work (Part V))) : Type 0 where
   pub some_worker : 0 < length workers
   pub each : (c : ℕ) → c < components → (part : Part V) × (part_at workers c ≡ Some part)
   pub no_other : (w k : ℕ) (part : Part V) → w < length workers
       → slice_get (members_of (slice_get workers w)) k ≡ Some part
       → w + k * length workers < components
-  pub sending : AreAtPorts txs_of departures_of tx_name (λ (ch : Channel). ch.from) links names
+  pub sending : AreAtPorts txs_of departures_of tx_name (λ (ch : Channel). ch.from) links near
       workers
-  pub receiving : AreAtPorts rxs_of arrivals_of rx_name (λ (ch : Channel). ch.to) links names
+  pub receiving : AreAtPorts rxs_of arrivals_of rx_name (λ (ch : Channel). ch.to) links far
       workers
 
--- one side of each channel's queue, in the order of the channels
-pub record AreSeats (links : List Link) (names : List TableId) (senders : List Sender)
+-- the sending side of each channel's near queue, and the receiving side of its far one, in the
+-- order of the channels
+pub record AreSeats (links : List Link) (near far : List TableId) (senders : List Sender)
     (receivers : List Receiver) : Type 0 where
   pub sender_each : length senders ≡ length (channels links)
   pub receiver_each : length receivers ≡ length (channels links)
   pub senders_are : (k : ℕ) (sender : Sender) → slice_get senders k ≡ Some sender
-      → slice_get names k ≡ Some sender.queue
+      → slice_get near k ≡ Some sender.queue
   pub receivers_are : (k : ℕ) (receiver : Receiver) → slice_get receivers k ≡ Some receiver
-      → slice_get names k ≡ Some receiver.queue
+      → slice_get far k ≡ Some receiver.queue
 
 -- whatever system a crew's parts are seated for
 abbrev pub StaysSeated : {V : Type 0} → List (Work (Part V)) → List (Work (Part V)) → Type 0
-StaysSeated {V} old new = (components : ℕ) (links : List Link) (names : List TableId)
-    → IsSeated components links names old → IsSeated components links names new
+StaysSeated {V} old new = (components : ℕ) (links : List Link)
+    (near far : List TableId) → IsSeated components links near far old
+    → IsSeated components links near far new

@@ -3,14 +3,13 @@ ghost use Rattle.std.specs.Prelude.{◌≡◌, ◌≤◌, ◌<◌, ◌+◌, [], 
 ghost use Rattle.cs_base.specs.declared.link.Link.{Link};
 ghost use Rattle.cs_base.specs.declared.port_kind.Via.TheVariants.{Queue as ByQueue};
 ghost use Rattle.mesh_core.specs.Start.{first_runners, queues_of};
-ghost use Rattle.slot_queue.specs.Ends.{Named};
 ghost use Rattle.run_threads.specs.declared.build_bad.BuildBad.TheVariants.{NoMemory as WantOfMemory};
 ghost use Rattle.run_threads.specs.Building.{IsPlaced, IsNewCrew, starts_of};
 ghost use Rattle.run_threads.specs.Closing.{HasRoomFor};
 ghost use Rattle.run_threads.specs.CrewOf.{IsCrewOf};
 ghost use Rattle.run_threads.specs.Dealing.{AreDealt, AreNumbered};
 ghost use Rattle.run_threads.specs.Numbers.{HaveNumbers};
-ghost use Rattle.run_threads.specs.Queues.{AreNew, as_empty, its_sender, its_receiver};
+ghost use Rattle.run_threads.specs.Queues.{AreNew, as_empty, names_of, its_sender, its_receiver};
 ghost use Rattle.run_threads.specs.Stock.{HaveSides, froms_of, tos_of};
 
 use crate::build_bad::BuildBad;
@@ -86,7 +85,7 @@ pub(crate) fn deal_all<'q, V: Device>(
     requires workers { AreDealt workers.old [] }
     ensures numbered { IfOk result (λ _. AreNumbered workers.old → AreNumbered workers.new) }
     ensures crew { IfOk result (λ _. IsCrewOf V.behaviour V.settled (starts_of runners.items)
-        wiring.now.links wiring.now.end (map (λ (queue : Named). queue.name) queues.now)
+        wiring.now.links wiring.now.end (names_of queues.now) (names_of queues.now)
         workers.new) }
     ensures fresh { IfOk result (λ _. IsNewCrew V.behaviour (starts_of runners.items)
         wiring.now.links wiring.now.end queues.now workers.new) }
@@ -118,7 +117,7 @@ fn workers_of<'q, V: Device>(
     requires at_start { All (λ device. V.settled device 0) devices.items }
     requires some_worker { 1 ≤ workers }
     ensures crew { IfOk result (λ made. IsCrewOf V.behaviour V.settled devices.items
-        wiring.now.links wiring.now.end (map (λ (queue : Named). queue.name) queues.now)
+        wiring.now.links wiring.now.end (names_of queues.now) (names_of queues.now)
         made.items) }
     ensures fresh { IfOk result (λ made. IsNewCrew V.behaviour devices.items
         wiring.now.links wiring.now.end queues.now made.items) }
@@ -162,7 +161,7 @@ impl<'q, V: Device, O, I> Crew<'q, V, O, I> {
         requires by_queues { All (λ (link : Link). link.via ≡ ByQueue) wiring.now.links }
         requires workers { (1 ≤ workers) × (workers ≤ 64) }
         ensures crew { IfOk result (λ crew. IsCrewOf V.behaviour V.settled devices.items
-            wiring.now.links wiring.now.end (map (λ (queue : Named). queue.name) queues.now)
+            wiring.now.links wiring.now.end (names_of queues.now) (names_of queues.now)
             crew.workers.items) }
         ensures fresh { IfOk result (λ crew. IsNewCrew V.behaviour devices.items
             wiring.now.links wiring.now.end queues.now crew.workers.items) }

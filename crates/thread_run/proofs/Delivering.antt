@@ -15,7 +15,7 @@ use Rattle.run_laws.specs.LocalRuns.{IsPrefix}
 use Rattle.slot_queue.specs.Closing.{Remains}
 use Rattle.slot_queue.specs.Ends.{Named, Sender, Receiver}
 use Rattle.sync_laws.proofs.Changed.{get_mapped}
-use Rattle.run_threads.specs.Queues.{as_empty, AreNew}
+use Rattle.run_threads.specs.Queues.{as_empty, names_of, AreNew}
 use Rattle.atomic_table.specs.Seated.{TableId}
 use Rattle.run_threads.specs.Leaving.{AreDelivered, LeavesGlobalRun}
 use Rattle.run_threads.specs.Seating.{AreSeats}
@@ -104,12 +104,12 @@ names_each queue_of names sides many each = same_by_place (map queue_of sides) n
 pub count_of_new : (kinds : List (List PortKind)) (links : List Link) (queues : List Named) (senders : List Sender) (receivers : List Receiver) → AreNew kinds links queues senders receivers → length queues ≡ length (channels links)
 count_of_new kinds links queues senders receivers new = sym (length-map queues as_empty) ∙ ap length new.queues_are ∙ length_queues kinds links
 
-pub sides_of_seats : (links : List Link) (queues : List Named) (senders : List Sender) (receivers : List Receiver) → length queues ≡ length (channels links) → AreSeats links (map (λ (q : Named). q.name) queues) senders receivers → AreSidesOf queues senders receivers
+pub sides_of_seats : (links : List Link) (queues : List Named) (senders : List Sender) (receivers : List Receiver) → length queues ≡ length (channels links) → AreSeats links (names_of queues) (names_of queues) senders receivers → AreSidesOf queues senders receivers
 sides_of_seats links queues senders receivers many seats = record {
   senders_are = names_each (λ (s : Sender). s.queue) (map (λ (q : Named). q.name) queues) senders (seats.sender_each ∙ sym many ∙ sym (length-map queues (λ (q : Named). q.name))) seats.senders_are;
   receivers_are = names_each (λ (r : Receiver). r.queue) (map (λ (q : Named). q.name) queues) receivers (seats.receiver_each ∙ sym many ∙ sym (length-map queues (λ (q : Named). q.name))) seats.receivers_are;
 }
 
-pub sides_now : (kinds : List (List PortKind)) (links : List Link) (sliced queues : List Named) (senders : List Sender) (receivers : List Receiver) (senders' : List Sender) (receivers' : List Receiver) → sliced ≡ queues → AreNew kinds links queues senders receivers → AreSeats links (map (λ (q : Named). q.name) sliced) senders' receivers' → AreSidesOf queues senders' receivers'
+pub sides_now : (kinds : List (List PortKind)) (links : List Link) (sliced queues : List Named) (senders : List Sender) (receivers : List Receiver) (senders' : List Sender) (receivers' : List Receiver) → sliced ≡ queues → AreNew kinds links queues senders receivers → AreSeats links (names_of sliced) (names_of sliced) senders' receivers' → AreSidesOf queues senders' receivers'
 sides_now kinds links sliced queues senders receivers senders' receivers' same new seats =
-    sides_of_seats links queues senders' receivers' (count_of_new kinds links queues senders receivers new) (subst (λ (l : List Named). AreSeats links (map (λ (q : Named). q.name) l) senders' receivers') same seats)
+    sides_of_seats links queues senders' receivers' (count_of_new kinds links queues senders receivers new) (subst (λ (l : List Named). AreSeats links (names_of l) (names_of l) senders' receivers') same seats)

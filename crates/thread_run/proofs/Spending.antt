@@ -29,9 +29,9 @@ use Rattle.run_threads.specs.Seating.{AreSeats}
 use Rattle.run_laws.proofs.Lists.{there_below}
 use Rattle.thread_run.specs.Spent.{IsSpent}
 
-module _ {V : Type 0} (b : Behaviour V) (settled : V → ℕ → Type 0) (starts : List V) (links : List Link) (end : ℕ) (names : List TableId) (old new : List (Work (Part V))) (of : IsCrewOf b settled starts links end names old)
+module _ {V : Type 0} (b : Behaviour V) (settled : V → ℕ → Type 0) (starts : List V) (links : List Link) (end : ℕ) (near far : List TableId) (old new : List (Work (Part V))) (of : IsCrewOf b settled starts links end near far old)
     (logs : List (List Line)) (counts : List Count) (senders : List Sender) (receivers : List Receiver)
-    (left : IsLeft (length starts) links new logs counts senders receivers) (seats : AreSeats links names senders receivers) where
+    (left : IsLeft (length starts) links new logs counts senders receivers) (seats : AreSeats links near far senders receivers) where
   abbrev net : Network V
   net = network b starts links
 
@@ -56,9 +56,9 @@ module _ {V : Type 0} (b : Behaviour V) (settled : V → ℕ → Type 0) (starts
   only_memory introduced delivered _ (wrong_introduction k wrong) = absurd (no_wrong introduced delivered k wrong)
 
   pub is_spent : {T : Type 0} (ended : Result T MeshBad) → IfOk ended (λ _. StaysCrew b settled old new) → IfOk ended (λ _. HaveEnded b new) → LeavesIntroductions b settled old new → IfErr ended (TellsCause b settled old new)
-      → LeavesRun b settled → IsSpent b starts links end names ended logs counts senders receivers
+      → LeavesRun b settled → IsSpent b starts links end near far ended logs counts senders receivers
   is_spent {T} ended stays have introduced cause leave = record {
     seats = seats;
-    leaves = λ done is delivered. leave starts links end names new (subst (λ (r : Result T MeshBad). IfOk r (λ _. StaysCrew b settled old new)) is stays starts links end names of) (subst (λ (r : Result T MeshBad). IfOk r (λ _. HaveEnded b new)) is have) logs counts senders receivers left delivered;
-    fault = λ fault is delivered. only_memory (introduced starts links end names of) delivered fault (subst (λ (r : Result T MeshBad). IfErr r (TellsCause b settled old new)) is cause starts links end names of);
+    leaves = λ done is delivered. leave starts links end near far new (subst (λ (r : Result T MeshBad). IfOk r (λ _. StaysCrew b settled old new)) is stays starts links end near far of) (subst (λ (r : Result T MeshBad). IfOk r (λ _. HaveEnded b new)) is have) logs counts senders receivers left delivered;
+    fault = λ fault is delivered. only_memory (introduced starts links end near far of) delivered fault (subst (λ (r : Result T MeshBad). IfErr r (TellsCause b settled old new)) is cause starts links end near far of);
   }

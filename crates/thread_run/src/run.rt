@@ -2,9 +2,8 @@ ghost use Rattle.std.specs.Prelude.{◌≡◌, ◌≤◌, [], map, All, IfOk};
 ghost use Rattle.cs_base.specs.declared.link.Link.{Link};
 ghost use Rattle.cs_base.specs.declared.port_kind.Via.TheVariants.{Queue};
 ghost use Rattle.global_model.specs.Runs.{HasLogsOf, HasCountsOf};
-ghost use Rattle.slot_queue.specs.Ends.{Named};
 ghost use Rattle.worker_rounds.specs.declared.mesh_bad.MeshBad.TheVariants.{NoMemory as WantOfMemory};
-ghost use Rattle.run_threads.specs.Queues.{AreNew};
+ghost use Rattle.run_threads.specs.Queues.{AreNew, names_of};
 ghost use Rattle.thread_run.specs.Rests.{AreTranscripts};
 ghost use Rattle.thread_run.specs.Spent.{IsSpent};
 
@@ -63,7 +62,7 @@ where
     requires by_queues { All (λ (link : Link). link.via ≡ Queue) wiring.now.links }
     requires workers { (1 ≤ workers) × (workers ≤ 64) }
     ensures spent { IfOk result (λ spent. IsSpent V.behaviour devices.items
-        wiring.now.links wiring.now.end (map (λ (queue : Named). queue.name) queues.now)
+        wiring.now.links wiring.now.end (names_of queues.now) (names_of queues.now)
         spent.ended spent.outcome.logs.lists spent.outcome.counts
         spent.producers.items spent.consumers.items) }
     ensures ends { IfOk result (λ spent. spent.ends.items ≡ []) }

@@ -1,10 +1,10 @@
-use Rattle.std.proofs.Common.{map, ap, sym, ◌∙◌, subst, rules}
+use Rattle.std.proofs.Common.{ap, sym, ◌∙◌, subst, rules}
 use Rattle.std.proofs.lemmas.List.{with_items_is, places}
-use Rattle.slot_queue.specs.Ends.{Named}
 use Rattle.mesh_core.specs.Start.{first_runners}
 use Rattle.run_threads.specs.Building.{IsNewCrew}
 use Rattle.run_threads.specs.CrewOf.{IsCrewOf}
 use Rattle.run_threads.specs.Dealing.{AreNumbered}
+use Rattle.run_threads.specs.Queues.{names_of}
 use Rattle.run_threads.specs.Stock.{froms_of, tos_of}
 use Rattle.run_threads.proofs.Begun.{none_dealt, are_numbered, starts_are, are_first, matches_so, at_start_so, senders_there, receivers_there}
 use Rattle.run_threads.proofs.build.workers_of.Goals as goal
@@ -40,7 +40,7 @@ pub returns-clause-crew : goal.returns-clause-crew
 returns-clause-crew g c =
     let items = with_items_is c.in_ok-made.made c.deal_all.new.workers (search (rules, places)) in
     let starts = starts_are g.V.Device.behaviour g.V.Device.settled c.args.wiring.now.links c.args.wiring.now.end c.args.devices.items c.in_ok-runners.runners.items (c.in_ok-runners.ensures ∙ ap (λ l. first_runners g.V.Device.behaviour l c.args.wiring.now.end c.args.devices.items) c.as_slice-links.ensures) in
-    subst (IsCrewOf g.V.Device.behaviour g.V.Device.settled c.args.devices.items c.args.wiring.now.links c.args.wiring.now.end (map (λ (queue : Named). queue.name) c.args.queues.now)) (sym items) (subst (λ l. IsCrewOf g.V.Device.behaviour g.V.Device.settled l c.args.wiring.now.links c.args.wiring.now.end (map (λ (queue : Named). queue.name) c.args.queues.now) c.deal_all.new.workers) starts c.in_ok-deal_all.ensures.crew)
+    subst (IsCrewOf g.V.Device.behaviour g.V.Device.settled c.args.devices.items c.args.wiring.now.links c.args.wiring.now.end (names_of c.args.queues.now) (names_of c.args.queues.now)) (sym items) (subst (λ l. IsCrewOf g.V.Device.behaviour g.V.Device.settled l c.args.wiring.now.links c.args.wiring.now.end (names_of c.args.queues.now) (names_of c.args.queues.now) c.deal_all.new.workers) starts c.in_ok-deal_all.ensures.crew)
 
 pub returns-clause-fresh : goal.returns-clause-fresh
 returns-clause-fresh g c =
