@@ -196,3 +196,8 @@ g++ -std=c++17 -O2 -pthread -o "$folder/slots" "$top/docs/peer/slots.cpp"
 runners=$top/crates/runner_bench
 [ -x "$runners/out/runner_bench" ] || (cd "$runners" && rt run > "$folder/runners.log" 2>&1)
 "$runners/out/runner_bench" 10000000
+
+# Streams of frames of 16 MiB through a deframer, in pieces of three lengths.
+frames=$top/crates/frame_bench
+[ -x "$frames/out/frame_bench" ] || (cd "$frames" && rt run > "$folder/frames.log" 2>&1)
+"$frames/out/frame_bench" 64 1500 65536
