@@ -16,8 +16,9 @@ use Rattle.device_api.specs.declared.counts.Count.{Count}
 use Rattle.device_api.specs.declared.logs.Line.{Line}
 use Rattle.global_model.specs.Step.{network}
 use Rattle.port_queue.specs.Plain.{Plain}
-use Rattle.run_laws.specs.LocalRuns.{IsPrefix}
-use Rattle.run_laws.proofs.Channels.{IsOwned, owned, channel_joined, out_is}
+use Rattle.run_laws.specs.LocalRuns.{IsPrefix, IsDelivered, AreLocalRuns}
+use Rattle.run_laws.specs.Wired.{IsChannel}
+use Rattle.run_laws.proofs.Channels.{IsOwned, owned, channel_joined, out_is, sender_of as channel_from}
 use Rattle.run_laws.proofs.Lists.{there_below}
 use Rattle.sync_rule.specs.declared.port_plan.PortPlan.{PortPlan}
 use Rattle.sync_rule.specs.declared.runner.Runner.{Runner}
@@ -25,6 +26,8 @@ use Rattle.sync_rule.specs.Next.{HasEnded}
 use Rattle.sync_rule.specs.Ports.{In, Out}
 use Rattle.sync_laws.specs.Stands.{Stands}
 use Rattle.sync_laws.specs.Whole.{IsPlannedBy, IsWhole, HaveEnded, of_component}
+use Rattle.sync_laws.proofs.Ahead.{only_events}
+use Rattle.sync_laws.proofs.Begins.{are_local}
 use Rattle.sync_laws.proofs.Changed.{get_mapped}
 use Rattle.slot_queue.specs.declared.ends.TxEnd.{TxEnd}
 use Rattle.slot_queue.specs.declared.ends.RxEnd.{RxEnd}
@@ -257,10 +260,25 @@ module _ {V : Type 0} (b : Behaviour V) (settled : V → ℕ → Type 0) (lawful
             let stood = standing c start.0 start.1 in
             subst (HasEnded b) (sym (runner_at c start.0 r start.1 is)) (part_ended workers ended c stood.part stood.there)
 
-        pub leaves : LeavesGlobalRun b starts links end logs counts senders
+        -- on each channel what was sent was received as far as the end
+        alone : AreLocalRuns net sent received end
+        alone = are_local net settled end positions received sent held left.runners whole of.wired (only_events b settled lawful) runners_ended
+
+        reached : (k : ℕ) (ch : Channel) (sender : Sender) (receiver : Receiver) → slice_get (channels links) k ≡ Some ch → slice_get senders k ≡ Some sender → slice_get receivers k ≡ Some receiver → IsDelivered sender.sent receiver.received end
+        reached k ch sender receiver is there back =
+            let from = sender_of k ch is in
+            let to = receiver_of k ch is in
+            let way : (start : V) × (kind : PortKind) × IsChannel net ch start kind = channel_from {last = end} net of.wired k ch is in
+            let said : sender.sent ≡ sent ch.from = ap (λ (x : Sender). x.sent) (same_Some sender from.sender (sym there ∙ left.senders_are k ch is ∙ from.there)) ∙ from.says in
+            let heard : receiver.received ≡ received ch.to = ap (λ (x : Receiver). x.received) (same_Some receiver to.receiver (sym back ∙ left.receivers_are k ch is ∙ to.there)) ∙ to.heard in
+            let ended_so : IsDelivered (sent ch.from) (received ch.to) end = alone.delivered ch way.0 way.1 way.2 in
+            subst (λ l. IsDelivered l receiver.received end) (sym said) (subst (λ l. IsDelivered (sent ch.from) l end) (sym heard) ended_so)
+
+        pub leaves : LeavesGlobalRun b starts links end logs counts senders receivers
         unfolding of_mesh
         leaves = record {
           logs_are = left.logs_are ∙ leaves_logs b settled lawful starts links end mesh of_mesh runners_ended;
           counts_are = left.counts_are ∙ leaves_counts b settled lawful starts links end mesh of_mesh runners_ended;
           transcripts = λ k ch sender start kind is there way. (let from = sender_of k ch is in ap (λ (x : Sender). x.sent) (same_Some sender from.sender (sym there ∙ left.senders_are k ch is ∙ from.there)) ∙ from.says ∙ lists_are b settled lawful starts links end mesh of_mesh runners_ended ch start kind way);
+          delivered = reached;
         }

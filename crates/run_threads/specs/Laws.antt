@@ -64,7 +64,8 @@ LeavesRun {V} b settled = (starts : List V) (links : List Link) (end : ℕ) (nea
     → HaveEnded b workers → (logs : List (List Line)) (counts : List Count)
     (senders : List Sender) (receivers : List Receiver)
     → IsLeft (length starts) links workers logs counts senders receivers
-    → AreDelivered links senders receivers → LeavesGlobalRun b starts links end logs counts senders
+    → AreDelivered links senders receivers
+    → LeavesGlobalRun b starts links end logs counts senders receivers
 
 -- a crew's parts are seated for its system
 abbrev pub AreSeated : {V : Type 0} → Behaviour V → (V → ℕ → Type 0) → Type 0

@@ -13,7 +13,7 @@ use Rattle.global_model.specs.Step.{network}
 use Rattle.mesh_core.specs.Laws.{transcript_in_run}
 use Rattle.mesh_core.specs.Left.{counts_by_port, counts_along}
 use Rattle.mesh_core.specs.State.{way_of}
-use Rattle.run_laws.specs.LocalRuns.{IsPrefix}
+use Rattle.run_laws.specs.LocalRuns.{IsPrefix, IsDelivered}
 use Rattle.run_laws.specs.Wired.{IsChannel}
 use Rattle.slot_queue.specs.Ends.{Sender, Receiver}
 use Rattle.sync_rule.specs.declared.runner.Runner.{Runner}
@@ -46,7 +46,8 @@ pub record AreDelivered (links : List Link) (senders : List Sender)
 
 -- what was left is what the global run leaves
 pub record LeavesGlobalRun {V : Type 0} (b : Behaviour V) (starts : List V) (links : List Link)
-    (end : ℕ) (logs : List (List Line)) (counts : List Count) (senders : List Sender) : Type 0 where
+    (end : ℕ) (logs : List (List Line)) (counts : List Count) (senders : List Sender)
+    (receivers : List Receiver) : Type 0 where
   pub logs_are : logs ≡ logs_of (global_until (network b starts links) end)
   pub counts_are : counts ≡ counts_of (network b starts links) end
   -- what was sent on each channel is its transcript
@@ -54,3 +55,7 @@ pub record LeavesGlobalRun {V : Type 0} (b : Behaviour V) (starts : List V) (lin
       → slice_get (channels links) k ≡ Some ch → slice_get senders k ≡ Some sender
       → IsChannel (network b starts links) ch start kind
       → sender.sent ≡ transcript_in_run b starts links end ch kind
+  -- and it was received as far as the end
+  pub delivered : (k : ℕ) (ch : Channel) (sender : Sender) (receiver : Receiver)
+      → slice_get (channels links) k ≡ Some ch → slice_get senders k ≡ Some sender
+      → slice_get receivers k ≡ Some receiver → IsDelivered sender.sent receiver.received end

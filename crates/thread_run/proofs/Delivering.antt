@@ -1,17 +1,19 @@
 -- What the closed queues of a run tell of its channels.
-use Rattle.std.proofs.Common.{◌≡◌, ℕ, zero, suc, ◌<◌, List, [], ◌∷◌, ◌++◌, length, map, Some, refl, sym, ap, ap₂, ◌∙◌, subst, arith}
+use Rattle.std.proofs.Common.{◌≡◌, ℕ, zero, suc, ◌≤◌, ◌<◌, List, [], ◌∷◌, ◌++◌, length, map, Some, refl, sym, ap, ap₂, ◌∙◌, subst, arith}
 use Rattle.std.specs.Prelude.{All, slice_get}
 use Rattle.std.proofs.lemmas.List.{length-map}
-use Rattle.std.proofs.lemmas.Option.{slice_get_within, get_or_from_slice_get, none-some, same_Some}
+use Rattle.std.proofs.lemmas.Option.{slice_get_within, slice_get-get_or, get_or_from_slice_get, none-some, same_Some}
 use Rattle.cs_base.specs.declared.link.Link.{Link}
 use Rattle.cs_base.specs.declared.port_kind.PortKind.{PortKind}
 use Rattle.device_api.specs.Behaviour.{Behaviour}
 use Rattle.device_api.specs.Channels.{Channel, channels}
+use Rattle.device_api.specs.Transcript.{bound_of}
 use Rattle.device_api.specs.declared.counts.Count.{Count}
 use Rattle.device_api.specs.declared.logs.Line.{Line}
 use Rattle.mesh_core.specs.Start.{two_each, queues_of}
 use Rattle.port_queue.specs.Plain.{Plain}
 use Rattle.run_laws.specs.LocalRuns.{IsPrefix}
+use Rattle.run_laws.proofs.Lists.{there_below}
 use Rattle.slot_queue.specs.Closing.{Remains}
 use Rattle.slot_queue.specs.Ends.{Named, Sender, Receiver}
 use Rattle.sync_laws.proofs.Changed.{get_mapped}
@@ -72,18 +74,34 @@ module _ (senders : List Sender) (receivers : List Receiver) (rests : List Remai
   pub delivered : (links : List Link) → AreDelivered links senders receivers
   delivered links = record { each = λ k ch s r at is also. received_begins k s r is also }
 
-  pub transcripts : {V : Type 0} (b : Behaviour V) (starts : List V) (kinds : List (List PortKind)) (links : List Link) (end : ℕ) (queues : List Named)
-      → map as_empty queues ≡ queues_of kinds links → map (λ (s : Sender). s.queue) senders ≡ map (λ (q : Named). q.name) queues
-      → (logs : List (List Line)) (counts : List Count) → LeavesGlobalRun b starts links end logs counts senders
-      → AreTranscripts b starts links end rests
-  transcripts b starts kinds links end queues new named logs counts leaves = record {
-    as_many = sym (length-map rests (λ (rest : Remains). rest.sent)) ∙ ap length closed.sent ∙ length-map senders (λ (s : Sender). s.sent) ∙ sym (length-map senders (λ (s : Sender). s.queue)) ∙ ap length named ∙ length-map queues (λ (q : Named). q.name) ∙ sym (length-map queues as_empty) ∙ ap length new ∙ length_queues kinds links;
-    sent = λ k ch rest start kind at there way. (
-        let found : (s : Sender) × (slice_get senders k ≡ Some s) × (s.sent ≡ rest.sent) = unmapped (λ (s : Sender). s.sent) senders k rest.sent (sym (ap (λ l. slice_get l k) closed.sent) ∙ get_mapped (λ (rest : Remains). rest.sent) rests k rest there) in
-        sym found.2 ∙ leaves.transcripts k ch found.0 start kind at found.1 way
-        );
-    left = closed.left;
-  }
+  module _ {V : Type 0} (b : Behaviour V) (starts : List V) (kinds : List (List PortKind)) (links : List Link) (end : ℕ) (queues : List Named)
+      (new : map as_empty queues ≡ queues_of kinds links) (named : map (λ (s : Sender). s.queue) senders ≡ map (λ (q : Named). q.name) queues)
+      (logs : List (List Line)) (counts : List Count) (leaves : LeavesGlobalRun b starts links end logs counts senders receivers) where
+    as_many : length rests ≡ length (channels links)
+    as_many = sym (length-map rests (λ (rest : Remains). rest.sent)) ∙ ap length closed.sent ∙ length-map senders (λ (s : Sender). s.sent) ∙ sym (length-map senders (λ (s : Sender). s.queue)) ∙ ap length named ∙ length-map queues (λ (q : Named). q.name) ∙ sym (length-map queues as_empty) ∙ ap length new ∙ length_queues kinds links
+
+    -- the sides of a closed queue
+    sender_side : (k : ℕ) (rest : Remains) → slice_get rests k ≡ Some rest → (s : Sender) × (slice_get senders k ≡ Some s) × (s.sent ≡ rest.sent)
+    sender_side k rest there = unmapped (λ (s : Sender). s.sent) senders k rest.sent (sym (ap (λ l. slice_get l k) closed.sent) ∙ get_mapped (λ (rest : Remains). rest.sent) rests k rest there)
+
+    receiver_side : (k : ℕ) (rest : Remains) → slice_get rests k ≡ Some rest → (r : Receiver) × (slice_get receivers k ≡ Some r) × (r.received ≡ rest.received)
+    receiver_side k rest there = unmapped (λ (r : Receiver). r.received) receivers k rest.received (sym (ap (λ l. slice_get l k) closed.received) ∙ get_mapped (λ (rest : Remains). rest.received) rests k rest there)
+
+    reached : (k : ℕ) (rest : Remains) → slice_get rests k ≡ Some rest → end ≤ bound_of rest.received
+    reached k rest there =
+        let below : k < length (channels links) = subst (λ n. k < n) as_many (slice_get_within rests k rest there) in
+        let at : (ch : Channel) × (slice_get (channels links) k ≡ Some ch) = there_below (channels links) k below in
+        let from = sender_side k rest there in
+        let to = receiver_side k rest there in
+        subst (λ l. end ≤ bound_of l) to.2 (leaves.delivered k at.0 from.0 to.0 at.1 from.1 to.1).reached
+
+    pub transcripts : AreTranscripts b starts links end rests
+    transcripts = record {
+      as_many = as_many;
+      sent = λ k ch rest start kind at there way. (let found = sender_side k rest there in sym found.2 ∙ leaves.transcripts k ch found.0 start kind at found.1 way);
+      left = closed.left;
+      reached = λ k rest within. reached k _ (slice_get-get_or rests k rest within);
+    }
 
 -- ---- the sides of the queues, in their order
 

@@ -19,6 +19,6 @@ pub record IsSpent {V T : Type 0} (b : Behaviour V) (starts : List V) (links : L
     (counts : List Count) (senders : List Sender) (receivers : List Receiver) : Type 0 where
   pub seats : AreSeats links near far senders receivers
   pub leaves : (done : T) → ended ≡ Ok done → AreDelivered links senders receivers
-      → LeavesGlobalRun b starts links end logs counts senders
+      → LeavesGlobalRun b starts links end logs counts senders receivers
   pub fault : (fault : MeshBad) → ended ≡ Err fault → AreDelivered links senders receivers
       → fault ≡ NoMemory
