@@ -60,6 +60,11 @@ pub(crate) fn all_ended<M: Member>(members: &[M]) -> bool
     true
 }
 
+/// Whether no member moves before something comes from another thread: the latest turns moved nothing, and not all have ended.
+fn waits<M: Member>(members: &[M]) -> bool {
+    !some_moved(members) && !all_ended(members)
+}
+
 /// Passes until each member is still, or as many as a round may have. It tells which.
 pub(crate) fn passes<M: Member>(alloc: Global, members: &mut [M]) -> Result<bool, MeshBad>
     requires fit { AllFit M.fits members.old }
@@ -72,7 +77,7 @@ pub(crate) fn passes<M: Member>(alloc: Global, members: &mut [M]) -> Result<bool
         if made + 1 >= LEAST && all_still(members) {
             return Ok(true);
         }
-        if !some_moved(members) {
+        if waits(members) {
             thread::yield_now();
         }
     }
