@@ -6,7 +6,7 @@ use std::alloc::Global;
 use std::test::Fail;
 
 /// A host that runs the program `p`. The end is missing.
-const HOST: &str = r#"
+pub(super) const HOST: &str = r#"
 [[component]]
 name = "h"
 kind = "host"

@@ -1,8 +1,9 @@
 //! Runs on threads.
+use super::images::{HOST, file};
 use super::switching::{NO_PORTS, THREE_STATIONS};
 use super::{Answer, FILE, FOUR_LINES, TWO_BEACONS, files, owned, plain, sink};
 use crate::cosim_run;
-use cs_base::{Gate, ListDialer, MemFiles, MemSink, Octets, OpenGate, Queue};
+use cs_base::{Gate, Items, ListDialer, MemFiles, MemSink, Octets, OpenGate, Queue};
 use std::alloc::Global;
 use std::sync::Wait;
 use std::sync::atomic::{AtomicU64, Ordering};
@@ -260,6 +261,44 @@ fn a_failing_output_leaves_no_queues(rt: HostRuntime) -> Result<(), Fail> {
     assert_eq!(rt; run.answer.out.as_slice(), b"1000 a tx ".as_slice());
     assert!(rt; run.answer.err.is_empty());
     assert_eq!(rt; run.rests, 0);
+    Ok(())
+}
+
+/// The files of a host and its program, of which one read fails.
+fn files_of_a_host(alloc: Global, read: u64) -> Result<MemFiles, Fail> {
+    let topology = format!(in alloc; "end = 1{HOST}")?;
+    let mut files = Items::new(alloc);
+    files.push(file(alloc, FILE, topology.as_bytes())?)?;
+    files.push(file(alloc, "p", b"")?)?;
+    let mut failing = Items::new(alloc);
+    failing.push(read)?;
+    Ok(MemFiles::new(alloc, files, failing))
+}
+
+/// The number of the read that fails, the status, and what is said and written.
+const READS: [(u64, u8, &str, &str); 3] = [
+    (0, 3, "cosim: file in\n", ""),
+    (1, 3, "cosim: file p\n", ""),
+    (2, 0, "", "0 h trap 0x2\n"),
+];
+
+#[test]
+fn each_read_may_fail(rt: HostRuntime) -> Result<(), Fail> {
+    let alloc = rt.alloc();
+    for (read, status, said, written) in &READS {
+        let run = run_of(
+            &rt,
+            alloc,
+            &["run", FILE, "--workers=2"],
+            &mut files_of_a_host(alloc, *read)?,
+            &mut sink(alloc, 65_536, &[])?,
+            &mut sink(alloc, 65_536, &[])?,
+            &OpenGate,
+        )?;
+        assert_eq!(rt; run.answer.status, *status);
+        assert_eq!(rt; run.answer.err.as_slice(), said.as_bytes());
+        assert_eq!(rt; run.answer.out.as_slice(), written.as_bytes());
+    }
     Ok(())
 }
 
