@@ -4,7 +4,7 @@ use Rattle.std.specs.Prelude.{slice_get}
 use Rattle.cs_base.specs.declared.link.Link.{Link}
 use Rattle.cs_base.specs.declared.port_kind.PortKind.{PortKind}
 use Rattle.cs_base.specs.Plan.{IsPlan}
-use Rattle.device_api.specs.Behaviour.{Behaviour, IsLawful}
+use Rattle.device_api.specs.Behaviour.{Behaviour}
 use Rattle.device_api.specs.Channels.{Channel, channels}
 use Rattle.mesh_core.specs.declared.way.Seat.{Seat}
 use Rattle.mesh_core.specs.declared.way.Way.{Way}
@@ -16,7 +16,7 @@ use Rattle.sync_rule.specs.declared.runner.Runner.{Runner}
 use Rattle.worker_rounds.specs.Rounds.{Work}
 use Rattle.run_threads.specs.Building.{starts_of}
 use Rattle.run_threads.specs.Dealing.{AreDealt, AreIdle, AreNumbered}
-use Rattle.run_threads.specs.Queues.{AreNew, as_empty, its_sender, its_receiver}
+use Rattle.run_threads.specs.Queues.{as_empty, its_sender, its_receiver}
 use Rattle.run_threads.specs.Stock.{HaveSides, froms_of, tos_of}
 use Rattle.run_threads.proofs.Placed.{first_sides}
 
@@ -59,16 +59,16 @@ module _ {V : Type 0} (b : Behaviour V) (settled : V → ℕ → Type 0) (links 
     pub at_start_so : All (λ (device : V). settled device 0) (starts_of runners)
     at_start_so = subst (All (λ (device : V). settled device 0)) (sym starts_are) at_start
 
--- the sides of all queues in slots
-module _ {V : Type 0} (b : Behaviour V) (settled : V → ℕ → Type 0) (lawful : IsLawful b settled) (devices : List V) (kinds : List (List PortKind)) (links : List Link) (end : ℕ) (wired : IsPlan end kinds links) (matches : map b.ports devices ≡ kinds) (at_start : All (λ (device : V). settled device 0) devices) (queues : List Named) (producers : List Sender) (consumers : List Receiver) (new : AreNew kinds links queues producers consumers) where
+-- the sides of all channels' queues in slots
+module _ {V : Type 0} (b : Behaviour V) (devices : List V) (kinds : List (List PortKind)) (links : List Link) (end : ℕ) (wired : IsPlan end kinds links) (matches : map b.ports devices ≡ kinds) (queues : List Named) (queues_are : map as_empty queues ≡ queues_of kinds links) where
   wired_so : IsPlan end (map b.ports devices) links
   wired_so = subst (λ k. IsPlan end k links) (sym matches) wired
 
   queues_so : map as_empty queues ≡ queues_of (map b.ports devices) links
-  queues_so = new.queues_are ∙ ap (λ k. queues_of k links) (sym matches)
+  queues_so = queues_are ∙ ap (λ k. queues_of k links) (sym matches)
 
-  pub senders_there : (froms : List Seat) → froms ≡ froms_of links → (slots : List (Option Sender)) → slots ≡ map Some producers → HaveSides its_sender queues froms slots 0
-  senders_there froms froms_so slots are = subst (λ seats. HaveSides its_sender queues seats slots 0) (sym froms_so) (first_sides b settled lawful devices links end wired_so at_start queues queues_so its_sender (λ ch. ch.from) producers slots new.producers_are are)
+  pub senders_there : (producers : List Sender) → producers ≡ map its_sender queues → (froms : List Seat) → froms ≡ froms_of links → (slots : List (Option Sender)) → slots ≡ map Some producers → HaveSides its_sender queues froms slots 0
+  senders_there producers producers_are froms froms_so slots are = subst (λ seats. HaveSides its_sender queues seats slots 0) (sym froms_so) (first_sides b devices links end wired_so queues queues_so its_sender (λ ch. ch.from) producers slots producers_are are)
 
-  pub receivers_there : (tos : List Seat) → tos ≡ tos_of links → (slots : List (Option Receiver)) → slots ≡ map Some consumers → HaveSides its_receiver queues tos slots 0
-  receivers_there tos tos_so slots are = subst (λ seats. HaveSides its_receiver queues seats slots 0) (sym tos_so) (first_sides b settled lawful devices links end wired_so at_start queues queues_so its_receiver (λ ch. ch.to) consumers slots new.consumers_are are)
+  pub receivers_there : (consumers : List Receiver) → consumers ≡ map its_receiver queues → (tos : List Seat) → tos ≡ tos_of links → (slots : List (Option Receiver)) → slots ≡ map Some consumers → HaveSides its_receiver queues tos slots 0
+  receivers_there consumers consumers_are tos tos_so slots are = subst (λ seats. HaveSides its_receiver queues seats slots 0) (sym tos_so) (first_sides b devices links end wired_so queues queues_so its_receiver (λ ch. ch.to) consumers slots consumers_are are)

@@ -3,7 +3,6 @@ use Rattle.std.proofs.Common.{◌≡◌, ℕ, ◌+◌, ◌*◌, ◌<◌, ◌≤�
 use Rattle.std.specs.Prelude.{slice_get}
 use Rattle.std.proofs.lemmas.List.{length-map}
 use Rattle.std.proofs.lemmas.Option.{slice_get_within}
-use Rattle.atomic_table.specs.Seated.{TableId}
 use Rattle.cs_base.specs.declared.link.Link.{Link}
 use Rattle.cs_base.specs.declared.port_kind.PortKind.{PortKind}
 use Rattle.cs_base.specs.Plan.{End, IsPlan}
@@ -20,7 +19,7 @@ use Rattle.run_threads.specs.Building.{IsPlaced, HaveParts, IsNewCrew, starts_of
 use Rattle.run_threads.specs.CrewOf.{IsCrewOf}
 use Rattle.run_threads.specs.Dealing.{AreDealt}
 use Rattle.run_threads.specs.Numbers.{HaveNumbers}
-use Rattle.run_threads.specs.Queues.{as_empty}
+use Rattle.run_threads.specs.Queues.{as_empty, names_of}
 use Rattle.run_threads.specs.Stock.{froms_of, tos_of}
 use Rattle.run_threads.proofs.InTurn.{start_there, is_first, kinds_there}
 use Rattle.run_threads.proofs.Placed.{no_parts, part_more, all_parts, all_new}
@@ -55,25 +54,22 @@ module _ {V : Type 0} (b : Behaviour V) (settled : V → ℕ → Type 0) (kinds 
   pub tos_there : (c : ℕ) (r : Runner V) → slice_get all c ≡ Some r → (ports : ℕ) → ports ≡ length (b.ports r.device) → (tos : List Seat) → tos ≡ tos_of links → HaveNumbers tos c ports
   tos_there c r there ports is tos tos_are = subst (λ seats. HaveNumbers seats c ports) (sym tos_are) (subst (HaveNumbers (tos_of links) c) (sym is) (have_tos b starts links end wired_so c r.device (start_there b links end all new c r there)))
 
-  module _ (lawful : IsLawful b settled) (at_start : All (λ (device : V). settled device 0) starts) (queues : List Named) (queues_are : map as_empty queues ≡ queues_of kinds links) where
-    abbrev names : List TableId
-    names = map (λ (queue : Named). queue.name) queues
+  module _ (lawful : IsLawful b settled) (at_start : All (λ (device : V). settled device 0) starts) (nears fars : List Named) (nears_are : map as_empty nears ≡ queues_of kinds links) (fars_are : map as_empty fars ≡ queues_of kinds links) where
+    as_asked : (queues : List Named) → map as_empty queues ≡ queues_of kinds links → map as_empty queues ≡ queues_of (map b.ports starts) links
+    as_asked queues are = are ∙ ap (λ k. queues_of k links) (sym matches)
 
-    queues_so : map as_empty queues ≡ queues_of (map b.ports starts) links
-    queues_so = queues_are ∙ ap (λ k. queues_of k links) (sym matches)
+    pub none_made : (workers : List (Work (Part V))) → AreDealt workers [] → HaveParts b starts links end nears fars 0 workers
+    none_made workers dealt = no_parts b settled lawful starts links end wired_so at_start nears fars (as_asked nears nears_are) (as_asked fars fars_are) workers dealt
 
-    pub none_made : (workers : List (Work (Part V))) → AreDealt workers [] → HaveParts b starts links end queues 0 workers
-    none_made workers dealt = no_parts b settled lawful starts links end wired_so at_start queues queues_so workers dealt
-
-    pub one_made : (c : ℕ) (r : Runner V) → slice_get all c ≡ Some r → (ports : ℕ) → ports ≡ length (b.ports r.device) → (froms tos : List Seat) → froms ≡ froms_of links → tos ≡ tos_of links → (before after : List (Work (Part V))) → HaveParts b starts links end queues c before → IsPlaced queues froms tos c ports r before after → HaveParts b starts links end queues (c + 1) after
+    pub one_made : (c : ℕ) (r : Runner V) → slice_get all c ≡ Some r → (ports : ℕ) → ports ≡ length (b.ports r.device) → (froms tos : List Seat) → froms ≡ froms_of links → tos ≡ tos_of links → (before after : List (Work (Part V))) → HaveParts b starts links end nears fars c before → IsPlaced nears fars froms tos c ports r before after → HaveParts b starts links end nears fars (c + 1) after
     one_made c r there ports is froms tos froms_are tos_are before after so_far placed =
-        let by_froms : IsPlaced queues (froms_of links) tos c ports r before after = subst (λ seats. IsPlaced queues seats tos c ports r before after) froms_are placed in
-        let by_tos : IsPlaced queues (froms_of links) (tos_of links) c ports r before after = subst (λ seats. IsPlaced queues (froms_of links) seats c ports r before after) tos_are by_froms in
-        let by_ports : IsPlaced queues (froms_of links) (tos_of links) c (length (b.ports r.device)) r before after = subst (λ n. IsPlaced queues (froms_of links) (tos_of links) c n r before after) is by_tos in
-        part_more b settled lawful starts links end wired_so at_start queues queues_so c r.device before after (start_there b links end all new c r there) so_far (subst (λ x. IsPlaced queues (froms_of links) (tos_of links) c (length (b.ports r.device)) x before after) (is_first b links end all new c r there) by_ports)
+        let by_froms : IsPlaced nears fars (froms_of links) tos c ports r before after = subst (λ seats. IsPlaced nears fars seats tos c ports r before after) froms_are placed in
+        let by_tos : IsPlaced nears fars (froms_of links) (tos_of links) c ports r before after = subst (λ seats. IsPlaced nears fars (froms_of links) seats c ports r before after) tos_are by_froms in
+        let by_ports : IsPlaced nears fars (froms_of links) (tos_of links) c (length (b.ports r.device)) r before after = subst (λ n. IsPlaced nears fars (froms_of links) (tos_of links) c n r before after) is by_tos in
+        part_more b settled lawful starts links end wired_so at_start nears fars (as_asked nears nears_are) (as_asked fars fars_are) c r.device before after (start_there b links end all new c r there) so_far (subst (λ x. IsPlaced nears fars (froms_of links) (tos_of links) c (length (b.ports r.device)) x before after) (is_first b links end all new c r there) by_ports)
 
-    pub all_made : (count : ℕ) (workers : List (Work (Part V))) → HaveParts b starts links end queues count workers → count ≡ length all → IsCrewOf b settled starts links end names names workers
-    all_made count workers have is = all_parts b settled lawful starts links end wired_so at_start queues queues_so count workers have (is ∙ sym (length-map all (λ r. r.device)))
+    pub all_made : (count : ℕ) (workers : List (Work (Part V))) → HaveParts b starts links end nears fars count workers → count ≡ length all → IsCrewOf b settled starts links end (names_of nears) (names_of fars) workers
+    all_made count workers have is = all_parts b settled lawful starts links end wired_so at_start nears fars (as_asked nears nears_are) (as_asked fars fars_are) count workers have (is ∙ sym (length-map all (λ r. r.device)))
 
-    pub all_unused : (count : ℕ) (workers : List (Work (Part V))) → HaveParts b starts links end queues count workers → count ≡ length all → IsNewCrew b starts links end queues workers
-    all_unused count workers have is = all_new b settled lawful starts links end wired_so at_start queues queues_so count workers have (is ∙ sym (length-map all (λ r. r.device)))
+    pub all_unused : (count : ℕ) (workers : List (Work (Part V))) → HaveParts b starts links end nears fars count workers → count ≡ length all → IsNewCrew b starts links end nears fars workers
+    all_unused count workers have is = all_new b settled lawful starts links end wired_so at_start nears fars (as_asked nears nears_are) (as_asked fars fars_are) count workers have (is ∙ sym (length-map all (λ r. r.device)))

@@ -22,3 +22,5 @@ pub mod Finished
 pub mod Introduced
 pub mod Causes
 mod Queued
+pub mod SharedOut
+pub mod Handed

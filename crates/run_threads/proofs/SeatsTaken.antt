@@ -5,6 +5,7 @@ use Rattle.std.proofs.lemmas.Bool.{leb-true, leb-false}
 use Rattle.std.proofs.lemmas.List.{length-map, reverse-append, reverse-reverse}
 use Rattle.std.proofs.lemmas.Option.{none-some, same_Some, slice_get-get_or, slice_get_within}
 use Rattle.run_laws.proofs.Lists.{slice_get-set_other}
+use Rattle.sync_laws.proofs.Changed.{mapped_at}
 use Rattle.run_threads.specs.Seats.{AreThere, TakenSoFar}
 
 module _ {X : Type 0} (all : List X) where
@@ -78,3 +79,10 @@ same_element xs i x y there is = same_Some x y (sym there ∙ slice_get-get_or x
 
 pub not_none : {X : Type 0} (slots : List (Option X)) (place : ℕ) (x : X) (found : Option X) → slice_get slots place ≡ Some (Some x) → slice_get slots place ≡ Some found → found ≡ None → ⊥
 not_none slots place x found there is none = (let both : Some x ≡ None = same_Some (Some x) found (sym there ∙ is) ∙ none in absurd cc)
+
+-- an element of a list by what a function makes of it
+pub mapped_within : {X Y : Type 0} (f : X → Y) (xs : List X) (i : ℕ) (y : Y) → slice_get (map f xs) i ≡ Some y → i < length xs
+mapped_within f xs i y there = (let found = mapped_at f xs (map f xs) i y refl there in slice_get_within xs i found.0 found.1)
+
+pub same_mapped : {X Y : Type 0} (f : X → Y) (xs : List X) (i : ℕ) (y : Y) (d : X) → slice_get (map f xs) i ≡ Some y → d ≡ get_or xs i d → y ≡ f d
+same_mapped f xs i y d there is = (let found = mapped_at f xs (map f xs) i y refl there in sym found.2 ∙ ap f (same_element xs i found.0 d found.1 is))

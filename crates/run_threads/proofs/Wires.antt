@@ -92,19 +92,19 @@ module _ {V : Type 0} (b : Behaviour V) (starts : List V) (links : List Link) (e
   kind_here : (at : End) (kind : PortKind) → at.component ≡ c → slice_get (b.ports start) at.port ≡ Some kind → kind_at (map b.ports starts) at ≡ Some kind
   kind_here at kind is there = ap (option_and_then (λ ports. slice_get ports at.port)) (ap (slice_get (map b.ports starts)) is ∙ get_mapped b.ports starts c start here) ∙ there
 
-  module _ (settled : V → ℕ → Type 0) (lawful : IsLawful b settled) (at_start : All (λ (device : V). settled device 0) starts) (queues : List Named) (queues_are : map as_empty queues ≡ queues_of (map b.ports starts) links) where
+  module _ (settled : V → ℕ → Type 0) (lawful : IsLawful b settled) (at_start : All (λ (device : V). settled device 0) starts) (nears fars : List Named) (nears_are : map as_empty nears ≡ queues_of (map b.ports starts) links) (fars_are : map as_empty fars ≡ queues_of (map b.ports starts) links) where
     -- a queue's kind is that of the port to which its channel leads
-    queue_kind : (k : ℕ) (ch : Channel) → slice_get (channels links) k ≡ Some ch → (queue : Named) → slice_get queues k ≡ Some queue → kind_at (map b.ports starts) ch.to ≡ Some queue.kind
-    queue_kind k ch at queue named =
+    queue_kind : (queues : List Named) → map as_empty queues ≡ queues_of (map b.ports starts) links → (k : ℕ) (ch : Channel) → slice_get (channels links) k ≡ Some ch → (queue : Named) → slice_get queues k ≡ Some queue → kind_at (map b.ports starts) ch.to ≡ Some queue.kind
+    queue_kind queues queues_are k ch at queue named =
         let has : HasQueue (map b.ports starts) links k ch = queue_at b starts links end wired k ch at in
         has.kind ∙ ap (λ (q : Plain). Some q.kind) (same_Some has.queue (as_empty queue) (sym has.there ∙ sym (ap (λ l. slice_get l k) queues_are) ∙ get_mapped as_empty queues k queue named))
 
-    module _ (part : Part V) (new : IsNewPart queues (froms_of links) (tos_of links) c (length (b.ports start)) (first_runner b links end c start) part) where
+    module _ (part : Part V) (new : IsNewPart nears fars (froms_of links) (tos_of links) c (length (b.ports start)) (first_runner b links end c start) part) where
       -- what the ends are, by port
-      sender_at : (p : ℕ) (one : TxEnd) → slice_get part.driver.txs.items p ≡ Some one → (number : ℕ) × (slice_get part.departures p ≡ Some number) × IsFresh its_sender queues number one.seat
+      sender_at : (p : ℕ) (one : TxEnd) → slice_get part.driver.txs.items p ≡ Some one → (number : ℕ) × (slice_get part.departures p ≡ Some number) × IsFresh its_sender nears number one.seat
       sender_at p one got = (let within : p < length part.driver.txs.items = slice_get_within part.driver.txs.items p one got in let number = there_below part.departures p (let many : length part.driver.txs.items ≡ length part.departures = new.sending.as_many in omega arith) in (number.0, number.1, new.sending.each p number.0 one number.1 got))
 
-      receiver_at : (p : ℕ) (one : RxEnd) → slice_get part.driver.rxs.items p ≡ Some one → (number : ℕ) × (slice_get part.arrivals p ≡ Some number) × IsFresh its_receiver queues number one.seat
+      receiver_at : (p : ℕ) (one : RxEnd) → slice_get part.driver.rxs.items p ≡ Some one → (number : ℕ) × (slice_get part.arrivals p ≡ Some number) × IsFresh its_receiver fars number one.seat
       receiver_at p one got = (let within : p < length part.driver.rxs.items = slice_get_within part.driver.rxs.items p one got in let number = there_below part.arrivals p (let many : length part.driver.rxs.items ≡ length part.arrivals = new.receiving.as_many in omega arith) in (number.0, number.1, new.receiving.each p number.0 one number.1 got))
 
       sends_kind : (p : ℕ) (one : TxEnd) (kind : PortKind) → slice_get part.driver.txs.items p ≡ Some one → slice_get (b.ports start) p ≡ Some kind → one.seat.kind ≡ partner kind
@@ -114,7 +114,7 @@ module _ {V : Type 0} (b : Behaviour V) (starts : List V) (links : List Link) (e
           let ch = found.channel in
           let way = way_out (map b.ports starts) links ch.from ch wired.links_join (out_is net wired at.0 ch found.at_number) in
           let from_kind = kind_here ch.from kind found.component_is (ap (slice_get (b.ports start)) found.port_is ∙ there) in
-          ap (λ (s : Sender). s.kind) at.2.unused ∙ same_Some at.2.queue.kind (partner kind) (sym (queue_kind at.0 ch found.at_number at.2.queue at.2.named) ∙ way.to_partner ∙ ap (option_map partner) from_kind)
+          ap (λ (s : Sender). s.kind) at.2.unused ∙ same_Some at.2.queue.kind (partner kind) (sym (queue_kind nears nears_are at.0 ch found.at_number at.2.queue at.2.named) ∙ way.to_partner ∙ ap (option_map partner) from_kind)
 
       receives_kind : (p : ℕ) (one : RxEnd) (kind : PortKind) → slice_get part.driver.rxs.items p ≡ Some one → slice_get (b.ports start) p ≡ Some kind → one.seat.kind ≡ kind
       receives_kind p one kind got there =
@@ -122,7 +122,7 @@ module _ {V : Type 0} (b : Behaviour V) (starts : List V) (links : List Link) (e
           let found = end_at (λ x. x.to) links c (length (b.ports start)) part.arrivals new.arrivals p at.0 at.1 in
           let ch = found.channel in
           let to_kind = kind_here ch.to kind found.component_is (ap (slice_get (b.ports start)) found.port_is ∙ there) in
-          ap (λ (r : Receiver). r.kind) at.2.unused ∙ same_Some at.2.queue.kind kind (sym (queue_kind at.0 ch found.at_number at.2.queue at.2.named) ∙ to_kind)
+          ap (λ (r : Receiver). r.kind) at.2.unused ∙ same_Some at.2.queue.kind kind (sym (queue_kind fars fars_are at.0 ch found.at_number at.2.queue at.2.named) ∙ to_kind)
 
       pub new_part_stands : PartStands b settled start part
       new_part_stands = record {
@@ -142,7 +142,7 @@ module _ {V : Type 0} (b : Behaviour V) (starts : List V) (links : List Link) (e
         };
       }
 
-      pub is_part_of : IsPartOf b settled links end (names_of queues) (names_of queues) c start part
+      pub is_part_of : IsPartOf b settled links end (names_of nears) (names_of fars) c start part
       is_part_of = record {
         component = new.component_is;
         stands = new_part_stands;
@@ -150,6 +150,6 @@ module _ {V : Type 0} (b : Behaviour V) (starts : List V) (links : List Link) (e
         plans = ap (λ (r : Runner V). map (λ (o : Out). o.plan) r.outgoing) new.runner_is ∙ map_mapped (λ (o : Out). o.plan) first_out (λ (plan : PortPlan). plan) (plans_of links c (b.ports start)) (λ plan. refl) ∙ map_same (plans_of links c (b.ports start));
         departs = departs part.departures new.departures;
         arrives = arrives part.arrivals new.arrivals;
-        sends_on = λ k ch one at from got. (let fresh = new.sending.each ch.from.port k one (departs part.departures new.departures k ch at from) got in get_mapped (λ (q : Named). q.name) queues k fresh.queue fresh.named ∙ ap (λ (s : Sender). Some s.queue) (sym fresh.unused));
-        receives_on = λ k ch one at to got. (let fresh = new.receiving.each ch.to.port k one (arrives part.arrivals new.arrivals k ch at to) got in get_mapped (λ (q : Named). q.name) queues k fresh.queue fresh.named ∙ ap (λ (r : Receiver). Some r.queue) (sym fresh.unused));
+        sends_on = λ k ch one at from got. (let fresh = new.sending.each ch.from.port k one (departs part.departures new.departures k ch at from) got in get_mapped (λ (q : Named). q.name) nears k fresh.queue fresh.named ∙ ap (λ (s : Sender). Some s.queue) (sym fresh.unused));
+        receives_on = λ k ch one at to got. (let fresh = new.receiving.each ch.to.port k one (arrives part.arrivals new.arrivals k ch at to) got in get_mapped (λ (q : Named). q.name) fars k fresh.queue fresh.named ∙ ap (λ (r : Receiver). Some r.queue) (sym fresh.unused));
       }

@@ -8,6 +8,7 @@ pub mod Seats
 pub mod Numbers
 pub mod Ends
 pub mod Stock
+pub mod Sharing
 pub mod Dealing
 pub mod Building
 pub mod Closing

@@ -1,5 +1,5 @@
--- What the parts of a crew are made from: the sides of the queues, each in a slot by the number of
--- its channel, until the part of its component is made.
+-- What the parts of a crew are made from: the sides of the near and the far queues, each in a slot
+-- by the number of its channel, until the part of its component is made.
 use Rattle.std.specs.Prelude.{ℕ, ◌≡◌, ◌≤◌, List, length, map, slice_get, Option, Some}
 use Rattle.cs_base.specs.declared.link.Link.{Link}
 use Rattle.device_api.specs.Channels.{Channel, channels}
@@ -48,13 +48,13 @@ pub record AreFresh {E S : Type 0} (seat_of : E → S) (side_of : Named → S) (
       → slice_get ends port ≡ Some one → IsFresh side_of queues number (seat_of one)
 
 -- the part of a component with so many ports before its first turn
-pub record IsNewPart {V : Type 0} (queues : List Named) (froms tos : List Seat)
+pub record IsNewPart {V : Type 0} (nears fars : List Named) (froms tos : List Seat)
     (component ports : ℕ) (runner : Runner V) (part : Part V) : Type 0 where
   pub component_is : part.component ≡ component
   pub runner_is : part.driver.runner ≡ runner
   pub departures : AreNumbers froms component ports part.departures
   pub arrivals : AreNumbers tos component ports part.arrivals
-  pub sending : AreFresh (λ (end : TxEnd). end.seat) its_sender queues part.departures
+  pub sending : AreFresh (λ (end : TxEnd). end.seat) its_sender nears part.departures
       part.driver.txs.items
-  pub receiving : AreFresh (λ (end : RxEnd). end.seat) its_receiver queues part.arrivals
+  pub receiving : AreFresh (λ (end : RxEnd). end.seat) its_receiver fars part.arrivals
       part.driver.rxs.items

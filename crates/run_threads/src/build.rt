@@ -10,6 +10,8 @@ ghost use Rattle.run_threads.specs.CrewOf.{IsCrewOf};
 ghost use Rattle.run_threads.specs.Dealing.{AreDealt, AreNumbered};
 ghost use Rattle.run_threads.specs.Numbers.{HaveNumbers};
 ghost use Rattle.run_threads.specs.Queues.{AreNew, as_empty, names_of, its_sender, its_receiver};
+ghost use Rattle.run_threads.specs.Proxied.{AreAllNew, near_queues, far_queues, near_names, far_names};
+ghost use Rattle.run_threads.specs.Sharing.{AreBetween};
 ghost use Rattle.run_threads.specs.Stock.{HaveSides, froms_of, tos_of};
 
 use crate::build_bad::BuildBad;
@@ -17,6 +19,7 @@ use crate::closing::Closing;
 use crate::crew::Crew;
 use crate::dealing::{deal, idle_workers};
 use crate::part::Part;
+use crate::sharing::{Shares, share_out};
 use crate::stock::Stock;
 use cs_base::dialer::Dialer;
 use cs_base::items::Items;
@@ -24,7 +27,7 @@ use cs_base::no_memory::NoMemory;
 use cs_base::wiring::Wiring;
 use device_api::Device;
 use mesh_core::build::runners_of;
-use slot_queue::{Consumer, Producer, SlotQueue};
+use slot_queue::{Consumer, Producer, RxEnd, SlotQueue, TxEnd};
 use std::alloc::Global;
 use sync_rule::Runner;
 use worker_rounds::Worker;
@@ -32,7 +35,8 @@ use worker_rounds::Worker;
 /// Makes the part of a component with so many ports, and deals it to its worker.
 fn place<'q, V: Device>(
     alloc: Global,
-    queues: &'q [SlotQueue],
+    nears: &[&'q SlotQueue],
+    fars: &[&'q SlotQueue],
     stock: &mut Stock,
     workers: &mut [Worker<Part<'q, V>>],
     component: u32,
@@ -42,22 +46,23 @@ fn place<'q, V: Device>(
     requires froms { HaveNumbers stock.old.froms.items component ports }
     requires tos { HaveNumbers stock.old.tos.items component ports }
     requires few { (length stock.old.froms.items ≤ 2048) × (length stock.old.tos.items ≤ 2048) }
-    requires senders { HaveSides its_sender queues.now
+    requires senders { HaveSides its_sender (map (λ queue. queue.now) nears.now)
         stock.old.froms.items stock.old.senders.items component }
-    requires receivers { HaveSides its_receiver queues.now
+    requires receivers { HaveSides its_receiver (map (λ queue. queue.now) fars.now)
         stock.old.tos.items stock.old.receivers.items component }
     requires some_worker { 0 < length workers.old }
-    ensures placed { IfOk result (λ _. IsPlaced queues.now
+    ensures placed { IfOk result (λ _. IsPlaced (map (λ queue. queue.now) nears.now)
+        (map (λ queue. queue.now) fars.now)
         stock.old.froms.items stock.old.tos.items component ports runner workers.old workers.new) }
     ensures numbered { IfOk result (λ _. AreNumbered workers.old → AreNumbered workers.new) }
     ensures froms { stock.new.froms ≡ stock.old.froms }
     ensures tos { stock.new.tos ≡ stock.old.tos }
-    ensures senders { IfOk result (λ _. HaveSides its_sender queues.now
+    ensures senders { IfOk result (λ _. HaveSides its_sender (map (λ queue. queue.now) nears.now)
         stock.old.froms.items stock.new.senders.items (component + 1)) }
-    ensures receivers { IfOk result (λ _. HaveSides its_receiver queues.now
+    ensures receivers { IfOk result (λ _. HaveSides its_receiver (map (λ queue. queue.now) fars.now)
         stock.old.tos.items stock.new.receivers.items (component + 1)) }
 {
-    let part = stock.part(alloc, queues, component, ports, runner)?;
+    let part = stock.part(alloc, nears, fars, component, ports, runner)?;
     deal(workers, component as usize, part)?;
     Ok(())
 }
@@ -65,7 +70,8 @@ fn place<'q, V: Device>(
 /// Makes the parts of all components, and deals them to workers without members.
 pub(crate) fn deal_all<'q, V: Device>(
     alloc: Global,
-    queues: &'q [SlotQueue],
+    nears: &[&'q SlotQueue],
+    fars: &[&'q SlotQueue],
     wiring: &Wiring,
     stock: &mut Stock,
     workers: &mut [Worker<Part<'q, V>>],
@@ -75,34 +81,94 @@ pub(crate) fn deal_all<'q, V: Device>(
         wiring.now.links wiring.now.end (starts_of runners.items) }
     requires matches { map V.behaviour.ports (starts_of runners.items) ≡ wiring.now.kinds }
     requires at_start { All (λ device. V.settled device 0) (starts_of runners.items) }
-    requires queues { map as_empty queues.now ≡ queues_of wiring.now.kinds wiring.now.links }
+    requires nears { map as_empty (map (λ queue. queue.now) nears.now)
+        ≡ queues_of wiring.now.kinds wiring.now.links }
+    requires fars { map as_empty (map (λ queue. queue.now) fars.now)
+        ≡ queues_of wiring.now.kinds wiring.now.links }
     requires froms { stock.old.froms.items ≡ froms_of wiring.now.links }
     requires tos { stock.old.tos.items ≡ tos_of wiring.now.links }
-    requires senders { HaveSides its_sender queues.now
+    requires senders { HaveSides its_sender (map (λ queue. queue.now) nears.now)
         stock.old.froms.items stock.old.senders.items 0 }
-    requires receivers { HaveSides its_receiver queues.now
+    requires receivers { HaveSides its_receiver (map (λ queue. queue.now) fars.now)
         stock.old.tos.items stock.old.receivers.items 0 }
     requires workers { AreDealt workers.old [] }
     ensures numbered { IfOk result (λ _. AreNumbered workers.old → AreNumbered workers.new) }
     ensures crew { IfOk result (λ _. IsCrewOf V.behaviour V.settled (starts_of runners.items)
-        wiring.now.links wiring.now.end (names_of queues.now) (names_of queues.now)
-        workers.new) }
+        wiring.now.links wiring.now.end (names_of (map (λ queue. queue.now) nears.now))
+        (names_of (map (λ queue. queue.now) fars.now)) workers.new) }
     ensures fresh { IfOk result (λ _. IsNewCrew V.behaviour (starts_of runners.items)
-        wiring.now.links wiring.now.end queues.now workers.new) }
+        wiring.now.links wiring.now.end (map (λ queue. queue.now) nears.now)
+        (map (λ queue. queue.now) fars.now) workers.new) }
 {
     let mut left = Items::from_vec(runners);
     left.reverse();
     let mut component = 0;
     'runners: while let Some(runner) = left.pop() {
         let ports = wiring.kinds.as_slice()[component as usize].len() as u32;
-        place(alloc, queues, stock, workers, component, ports, runner)?;
+        place(alloc, nears, fars, stock, workers, component, ports, runner)?;
         component += 1;
     }
     Ok(())
 }
 
-/// The workers of devices at their start.
+/// The workers of devices at their start, with the near and the far queues of the channels, and the sides that the channels'
+/// senders and receivers have of them.
 fn workers_of<'q, V: Device>(
+    alloc: Global,
+    nears: &[&'q SlotQueue],
+    fars: &[&'q SlotQueue],
+    senders: Vec<Producer>,
+    receivers: Vec<Consumer>,
+    devices: Vec<V>,
+    wiring: &Wiring,
+    workers: u32,
+) -> Result<Vec<Worker<Part<'q, V>>>, NoMemory>
+    requires nears { map as_empty (map (λ queue. queue.now) nears.now)
+        ≡ queues_of wiring.now.kinds wiring.now.links }
+    requires fars { map as_empty (map (λ queue. queue.now) fars.now)
+        ≡ queues_of wiring.now.kinds wiring.now.links }
+    requires senders { senders.items ≡ map its_sender (map (λ queue. queue.now) nears.now) }
+    requires receivers { receivers.items ≡ map its_receiver (map (λ queue. queue.now) fars.now) }
+    requires matches { map V.behaviour.ports devices.items ≡ wiring.now.kinds }
+    requires at_start { All (λ device. V.settled device 0) devices.items }
+    requires some_worker { 1 ≤ workers }
+    ensures crew { IfOk result (λ made. IsCrewOf V.behaviour V.settled devices.items
+        wiring.now.links wiring.now.end (names_of (map (λ queue. queue.now) nears.now))
+        (names_of (map (λ queue. queue.now) fars.now)) made.items) }
+    ensures fresh { IfOk result (λ made. IsNewCrew V.behaviour devices.items
+        wiring.now.links wiring.now.end (map (λ queue. queue.now) nears.now)
+        (map (λ queue. queue.now) fars.now) made.items) }
+    ensures as_many { IfOk result (λ made. length made.items ≡ workers) }
+    ensures numbered { IfOk result (λ made. AreNumbered made.items) }
+{
+    let kinds = wiring.kinds.as_slice();
+    let links = wiring.links.as_slice();
+    let mut stock = Stock::new(alloc, links, senders, receivers)?;
+    let mut made = idle_workers(alloc, workers)?;
+    let runners = runners_of(alloc, devices, kinds, links, wiring.end)?;
+    deal_all(
+        alloc,
+        nears,
+        fars,
+        wiring,
+        &mut stock,
+        made.as_mut_slice(),
+        runners,
+    )?;
+    Ok(made)
+}
+
+/// The workers of devices at their start, and what stands between the near and the far queues of the channels by proxy, in
+/// the order of the channels: the ends out of the near ones, and those into the far ones.
+#[derive(Drop)]
+pub(crate) struct Staffed<'q, V> {
+    pub(crate) workers: Vec<Worker<Part<'q, V>>>,
+    pub(crate) outs: Vec<RxEnd<'q>>,
+    pub(crate) ins: Vec<TxEnd<'q>>,
+}
+
+/// The workers of devices at their start that are joined by the queues of a wiring, of which links may go by proxy.
+pub(crate) fn staff<'q, V: Device>(
     alloc: Global,
     queues: &'q [SlotQueue],
     producers: Vec<Producer>,
@@ -110,34 +176,42 @@ fn workers_of<'q, V: Device>(
     devices: Vec<V>,
     wiring: &Wiring,
     workers: u32,
-) -> Result<Vec<Worker<Part<'q, V>>>, NoMemory>
-    requires new { AreNew wiring.now.kinds wiring.now.links
+) -> Result<Staffed<'q, V>, NoMemory>
+    requires new { AreAllNew wiring.now.kinds wiring.now.links
         queues.now producers.items consumers.items }
     requires matches { map V.behaviour.ports devices.items ≡ wiring.now.kinds }
     requires at_start { All (λ device. V.settled device 0) devices.items }
     requires some_worker { 1 ≤ workers }
     ensures crew { IfOk result (λ made. IsCrewOf V.behaviour V.settled devices.items
-        wiring.now.links wiring.now.end (names_of queues.now) (names_of queues.now)
-        made.items) }
+        wiring.now.links wiring.now.end (near_names wiring.now.links queues.now)
+        (far_names wiring.now.links queues.now) made.workers.items) }
     ensures fresh { IfOk result (λ made. IsNewCrew V.behaviour devices.items
-        wiring.now.links wiring.now.end queues.now made.items) }
-    ensures as_many { IfOk result (λ made. length made.items ≡ workers) }
-    ensures numbered { IfOk result (λ made. AreNumbered made.items) }
+        wiring.now.links wiring.now.end (near_queues wiring.now.links queues.now)
+        (far_queues wiring.now.links queues.now) made.workers.items) }
+    ensures between { IfOk result (λ made. AreBetween wiring.now.links queues.now
+        made.outs.items made.ins.items) }
+    ensures as_many { IfOk result (λ made. length made.workers.items ≡ workers) }
+    ensures numbered { IfOk result (λ made. AreNumbered made.workers.items) }
 {
-    let kinds = wiring.kinds.as_slice();
-    let links = wiring.links.as_slice();
-    let mut stock = Stock::new(alloc, links, producers, consumers)?;
-    let mut made = idle_workers(alloc, workers)?;
-    let runners = runners_of(alloc, devices, kinds, links, wiring.end)?;
-    deal_all(
+    let Shares {
+        nears,
+        senders,
+        fars,
+        receivers,
+        outs,
+        ins,
+    } = share_out(alloc, queues, producers, consumers, wiring.links.as_slice())?;
+    let workers = workers_of(
         alloc,
-        queues,
+        nears.as_slice(),
+        fars.as_slice(),
+        senders,
+        receivers,
+        devices,
         wiring,
-        &mut stock,
-        made.as_mut_slice(),
-        runners,
+        workers,
     )?;
-    Ok(made)
+    Ok(Staffed { workers, outs, ins })
 }
 
 impl<'q, V: Device, O, I> Crew<'q, V, O, I> {
@@ -164,7 +238,7 @@ impl<'q, V: Device, O, I> Crew<'q, V, O, I> {
             wiring.now.links wiring.now.end (names_of queues.now) (names_of queues.now)
             crew.workers.items) }
         ensures fresh { IfOk result (λ crew. IsNewCrew V.behaviour devices.items
-            wiring.now.links wiring.now.end queues.now crew.workers.items) }
+            wiring.now.links wiring.now.end queues.now queues.now crew.workers.items) }
         ensures as_many { IfOk result (λ crew. length crew.workers.items ≡ workers) }
         ensures numbered { IfOk result (λ crew. AreNumbered crew.workers.items) }
         ensures room { IfOk result (λ crew. HasRoomFor (length devices.items) wiring.now.links
@@ -174,11 +248,11 @@ impl<'q, V: Device, O, I> Crew<'q, V, O, I> {
         ensures dialer { dial.new ≡ dial.old }
     {
         let closing = Closing::new(alloc, wiring)?;
-        let made = workers_of(
+        let Staffed { workers, .. } = staff(
             alloc, queues, producers, consumers, devices, wiring, workers,
         )?;
         Ok(Crew {
-            workers: made,
+            workers,
             ends: Vec::new(alloc),
             closing,
         })

@@ -12,18 +12,18 @@ use std::alloc::Global;
 /// The sending ends of the queues at these places, with the sides that are given in the same order.
 pub(crate) fn tx_ends<'q>(
     alloc: Global,
-    queues: &'q [SlotQueue],
+    queues: &[&'q SlotQueue],
     places: &[u32],
     sides: Vec<Producer>,
 ) -> Result<Vec<TxEnd<'q>>, NoMemory>
-    requires { AreSendersOf queues.now places.now sides.items }
+    requires { AreSendersOf (map (λ queue. queue.now) queues.now) places.now sides.items }
     ensures { IfOk result (λ ends. map (λ (end : Tx). end.seat) ends.items ≡ sides.items) }
 {
     let mut ends = Vec::new(alloc);
     let mut left = Items::from_vec(sides);
     left.reverse();
     'sides: while let Some(seat) = left.pop() {
-        let queue = &queues[places[ends.len()] as usize];
+        let queue = queues[places[ends.len()] as usize];
         ends.push(TxEnd { queue, seat })?;
     }
     Ok(ends)
@@ -32,18 +32,18 @@ pub(crate) fn tx_ends<'q>(
 /// The receiving ends, likewise.
 pub(crate) fn rx_ends<'q>(
     alloc: Global,
-    queues: &'q [SlotQueue],
+    queues: &[&'q SlotQueue],
     places: &[u32],
     sides: Vec<Consumer>,
 ) -> Result<Vec<RxEnd<'q>>, NoMemory>
-    requires { AreReceiversOf queues.now places.now sides.items }
+    requires { AreReceiversOf (map (λ queue. queue.now) queues.now) places.now sides.items }
     ensures { IfOk result (λ ends. map (λ (end : Rx). end.seat) ends.items ≡ sides.items) }
 {
     let mut ends = Vec::new(alloc);
     let mut left = Items::from_vec(sides);
     left.reverse();
     'sides: while let Some(seat) = left.pop() {
-        let queue = &queues[places[ends.len()] as usize];
+        let queue = queues[places[ends.len()] as usize];
         ends.push(RxEnd { queue, seat })?;
     }
     Ok(ends)

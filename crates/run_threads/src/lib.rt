@@ -14,6 +14,7 @@ pub mod part;
 mod parting;
 pub mod queues;
 mod seats;
+mod sharing;
 mod stock;
 
 pub use build_bad::BuildBad;

@@ -32,7 +32,7 @@ pub(crate) struct Numbered<E> {
 /// The sending ends of the channels out of the first so many ports of a component. Their sides are taken out of the slots.
 fn take_txs<'q>(
     alloc: Global,
-    queues: &'q [SlotQueue],
+    queues: &[&'q SlotQueue],
     seats: &[Seat],
     slots: &mut [Option<Producer>],
     component: u32,
@@ -40,13 +40,15 @@ fn take_txs<'q>(
 ) -> Result<Numbered<TxEnd<'q>>, NoMemory>
     requires some { HaveNumbers seats.now component ports }
     requires few { length seats.now ≤ 2048 }
-    requires there { HaveSides its_sender queues.now seats.now slots.old component }
+    requires there { HaveSides its_sender (map (λ queue. queue.now) queues.now)
+        seats.now slots.old component }
     ensures numbers { IfOk result (λ made.
         AreNumbers seats.now component ports made.numbers.items) }
     ensures fresh { IfOk result (λ made. AreFresh (λ (end : Tx). end.seat) its_sender
-        queues.now made.numbers.items made.ends.items) }
+        (map (λ queue. queue.now) queues.now) made.numbers.items made.ends.items) }
     ensures left { IfOk result (λ _.
-        HaveSides its_sender queues.now seats.now slots.new (component + 1)) }
+        HaveSides its_sender (map (λ queue. queue.now) queues.now)
+        seats.now slots.new (component + 1)) }
 {
     let numbers = numbers_of(alloc, seats, component, ports)?;
     let places = numbers.as_slice();
@@ -58,7 +60,7 @@ fn take_txs<'q>(
 /// The receiving ends of the channels into them, likewise.
 fn take_rxs<'q>(
     alloc: Global,
-    queues: &'q [SlotQueue],
+    queues: &[&'q SlotQueue],
     seats: &[Seat],
     slots: &mut [Option<Consumer>],
     component: u32,
@@ -66,13 +68,15 @@ fn take_rxs<'q>(
 ) -> Result<Numbered<RxEnd<'q>>, NoMemory>
     requires some { HaveNumbers seats.now component ports }
     requires few { length seats.now ≤ 2048 }
-    requires there { HaveSides its_receiver queues.now seats.now slots.old component }
+    requires there { HaveSides its_receiver (map (λ queue. queue.now) queues.now)
+        seats.now slots.old component }
     ensures numbers { IfOk result (λ made.
         AreNumbers seats.now component ports made.numbers.items) }
     ensures fresh { IfOk result (λ made. AreFresh (λ (end : Rx). end.seat) its_receiver
-        queues.now made.numbers.items made.ends.items) }
+        (map (λ queue. queue.now) queues.now) made.numbers.items made.ends.items) }
     ensures left { IfOk result (λ _.
-        HaveSides its_receiver queues.now seats.now slots.new (component + 1)) }
+        HaveSides its_receiver (map (λ queue. queue.now) queues.now)
+        seats.now slots.new (component + 1)) }
 {
     let numbers = numbers_of(alloc, seats, component, ports)?;
     let places = numbers.as_slice();
@@ -117,7 +121,7 @@ fn seats_to(alloc: Global, ways: &[Way]) -> Result<Vec<Seat>, NoMemory>
     Ok(ways.iter().map(|way| way.to).collect(alloc)?)
 }
 
-/// The ports out of which the channels lead, and those into which they lead, by the channels' numbers; and the sides of the
+/// The ports out of which the channels lead, and those into which they lead, by the channels' numbers; and the sides of their
 /// queues in slots by the same numbers, until the parts of their components are made.
 #[derive(Drop)]
 pub(crate) struct Stock {
@@ -128,7 +132,7 @@ pub(crate) struct Stock {
 }
 
 impl Stock {
-    /// The ports of the channels of these links, and the sides of all their queues.
+    /// The ports of the channels of these links, and the sides that their senders and receivers have.
     pub(crate) fn new(
         alloc: Global,
         links: &[Link],
@@ -152,11 +156,13 @@ impl Stock {
         })
     }
 
-    /// The part of a component with so many ports, made after those of the components before it.
+    /// The part of a component with so many ports, made after those of the components before it. These are the near
+    /// and the far queues of all channels, by the channels' numbers.
     pub(crate) fn part<'q, V: Device>(
         &mut self,
         alloc: Global,
-        queues: &'q [SlotQueue],
+        nears: &[&'q SlotQueue],
+        fars: &[&'q SlotQueue],
         component: u32,
         ports: u32,
         runner: Runner<V>,
@@ -164,25 +170,28 @@ impl Stock {
         requires froms { HaveNumbers self.old.froms.items component ports }
         requires tos { HaveNumbers self.old.tos.items component ports }
         requires few { (length self.old.froms.items ≤ 2048) × (length self.old.tos.items ≤ 2048) }
-        requires senders { HaveSides its_sender queues.now
+        requires senders { HaveSides its_sender (map (λ queue. queue.now) nears.now)
             self.old.froms.items self.old.senders.items component }
-        requires receivers { HaveSides its_receiver queues.now
+        requires receivers { HaveSides its_receiver (map (λ queue. queue.now) fars.now)
             self.old.tos.items self.old.receivers.items component }
-        ensures part { IfOk result (IsNewPart queues.now
+        ensures part { IfOk result (IsNewPart (map (λ queue. queue.now) nears.now)
+            (map (λ queue. queue.now) fars.now)
             self.old.froms.items self.old.tos.items component ports runner) }
         ensures froms { self.new.froms ≡ self.old.froms }
         ensures tos { self.new.tos ≡ self.old.tos }
-        ensures senders { IfOk result (λ _. HaveSides its_sender queues.now
+        ensures senders { IfOk result (λ _. HaveSides its_sender
+            (map (λ queue. queue.now) nears.now)
             self.old.froms.items self.new.senders.items (component + 1)) }
-        ensures receivers { IfOk result (λ _. HaveSides its_receiver queues.now
+        ensures receivers { IfOk result (λ _. HaveSides its_receiver
+            (map (λ queue. queue.now) fars.now)
             self.old.tos.items self.new.receivers.items (component + 1)) }
     {
         let froms = self.froms.as_slice();
         let tos = self.tos.as_slice();
         let senders = self.senders.as_mut_slice();
         let receivers = self.receivers.as_mut_slice();
-        let outlets = take_txs(alloc, queues, froms, senders, component, ports)?;
-        let inlets = take_rxs(alloc, queues, tos, receivers, component, ports)?;
+        let outlets = take_txs(alloc, nears, froms, senders, component, ports)?;
+        let inlets = take_rxs(alloc, fars, tos, receivers, component, ports)?;
         Ok(part_of(component, runner, outlets, inlets))
     }
 }

@@ -1,4 +1,4 @@
-use Rattle.std.proofs.Common.{rules, ◌≤◌, ◌≡◌, ◌<◌, length, reverse, refl, sym, ap, ◌∙◌, arith}
+use Rattle.std.proofs.Common.{map, rules, ◌≤◌, ◌≡◌, ◌<◌, length, reverse, refl, sym, ap, ◌∙◌, arith}
 use Rattle.std.specs.Prelude.{slice_get}
 use Rattle.run_threads.proofs.SeatsTaken.{same_element}
 use Rattle.run_threads.specs.Stock.{froms_of, tos_of}
@@ -9,7 +9,7 @@ use Rattle.run_threads.proofs.build.deal_all.Goals as goal
 pub runners-init : goal.runners-init
 runners-init g c = record {
   taken = none_taken c.args.runners.items _ (c.reverse.ensures ∙ ap reverse c.from_vec-left.ensures);
-  parts = none_made g.V.Device.behaviour g.V.Device.settled c.args.wiring.now.kinds c.args.wiring.now.links c.args.wiring.now.end c.args.wiring.now.valid c.args.runners.items c.requires.first c.requires.matches g.met.V.Device.lawful c.requires.at_start c.args.queues.now c.requires.queues c.args.workers.now c.requires.workers;
+  parts = none_made g.V.Device.behaviour g.V.Device.settled c.args.wiring.now.kinds c.args.wiring.now.links c.args.wiring.now.end c.args.wiring.now.valid c.args.runners.items c.requires.first c.requires.matches g.met.V.Device.lawful c.requires.at_start (map (λ queue. queue.now) c.args.nears.now) (map (λ queue. queue.now) c.args.fars.now) c.requires.nears c.requires.fars c.args.workers.now c.requires.workers;
   numbered = λ numbered. numbered;
   froms = refl;
   tos = refl;
@@ -54,7 +54,7 @@ runners-preserved g c =
     let tos_are : c.runners.stock.tos.items ≡ tos_of c.args.wiring.now.links = search rules in
     record {
       taken = one_taken c.args.runners.items c.runners.component c.runners.left c.pop.new.self c.in-Some.runner c.runners.invariant.taken c.in-Some.ensures.last;
-      parts = one_made g.V.Device.behaviour g.V.Device.settled c.args.wiring.now.kinds c.args.wiring.now.links c.args.wiring.now.end c.args.wiring.now.valid c.args.runners.items c.requires.first c.requires.matches g.met.V.Device.lawful c.requires.at_start c.args.queues.now c.requires.queues c.runners.component c.in-Some.runner there c.len-ports.result is c.runners.stock.froms.items c.runners.stock.tos.items froms_are tos_are c.runners.workers c.place.new.workers c.runners.invariant.parts c.in_ok-place.ensures.placed;
+      parts = one_made g.V.Device.behaviour g.V.Device.settled c.args.wiring.now.kinds c.args.wiring.now.links c.args.wiring.now.end c.args.wiring.now.valid c.args.runners.items c.requires.first c.requires.matches g.met.V.Device.lawful c.requires.at_start (map (λ queue. queue.now) c.args.nears.now) (map (λ queue. queue.now) c.args.fars.now) c.requires.nears c.requires.fars c.runners.component c.in-Some.runner there c.len-ports.result is c.runners.stock.froms.items c.runners.stock.tos.items froms_are tos_are c.runners.workers c.place.new.workers c.runners.invariant.parts c.in_ok-place.ensures.placed;
       numbered = λ numbered. c.in_ok-place.ensures.numbered (c.runners.invariant.numbered numbered);
       froms = c.in_ok-place.ensures.froms ∙ c.runners.invariant.froms;
       tos = c.in_ok-place.ensures.tos ∙ c.runners.invariant.tos;
@@ -63,7 +63,7 @@ runners-preserved g c =
     }
 
 pub returns-clause-crew : goal.returns-clause-crew
-returns-clause-crew g c = all_made g.V.Device.behaviour g.V.Device.settled c.args.wiring.now.kinds c.args.wiring.now.links c.args.wiring.now.end c.args.wiring.now.valid c.args.runners.items c.requires.first c.requires.matches g.met.V.Device.lawful c.requires.at_start c.args.queues.now c.requires.queues c.runners.component c.runners.workers c.runners.invariant.parts (all_taken c.args.runners.items c.runners.component c.runners.left c.runners.invariant.taken c.in_default.ensures.none)
+returns-clause-crew g c = all_made g.V.Device.behaviour g.V.Device.settled c.args.wiring.now.kinds c.args.wiring.now.links c.args.wiring.now.end c.args.wiring.now.valid c.args.runners.items c.requires.first c.requires.matches g.met.V.Device.lawful c.requires.at_start (map (λ queue. queue.now) c.args.nears.now) (map (λ queue. queue.now) c.args.fars.now) c.requires.nears c.requires.fars c.runners.component c.runners.workers c.runners.invariant.parts (all_taken c.args.runners.items c.runners.component c.runners.left c.runners.invariant.taken c.in_default.ensures.none)
 
 pub returns-clause-fresh : goal.returns-clause-fresh
-returns-clause-fresh g c = all_unused g.V.Device.behaviour g.V.Device.settled c.args.wiring.now.kinds c.args.wiring.now.links c.args.wiring.now.end c.args.wiring.now.valid c.args.runners.items c.requires.first c.requires.matches g.met.V.Device.lawful c.requires.at_start c.args.queues.now c.requires.queues c.runners.component c.runners.workers c.runners.invariant.parts (all_taken c.args.runners.items c.runners.component c.runners.left c.runners.invariant.taken c.in_default.ensures.none)
+returns-clause-fresh g c = all_unused g.V.Device.behaviour g.V.Device.settled c.args.wiring.now.kinds c.args.wiring.now.links c.args.wiring.now.end c.args.wiring.now.valid c.args.runners.items c.requires.first c.requires.matches g.met.V.Device.lawful c.requires.at_start (map (λ queue. queue.now) c.args.nears.now) (map (λ queue. queue.now) c.args.fars.now) c.requires.nears c.requires.fars c.runners.component c.runners.workers c.runners.invariant.parts (all_taken c.args.runners.items c.runners.component c.runners.left c.runners.invariant.taken c.in_default.ensures.none)

@@ -1,4 +1,4 @@
-use Rattle.std.proofs.Common.{sym, subst}
+use Rattle.std.proofs.Common.{map, sym, subst}
 use Rattle.slot_queue.specs.declared.ends.RxEnd.{RxEnd}
 use Rattle.run_threads.specs.Numbers.{AreNumbers}
 use Rattle.run_threads.specs.Queues.{its_receiver}
@@ -9,19 +9,19 @@ use Rattle.run_threads.proofs.stock.take_rxs.Goals as goal
 pub take_at-requires : goal.take_at-requires
 take_at-requires c =
     let are : AreNumbers c.args.seats.now c.args.component c.args.ports c.as_slice-places.result.now = subst (AreNumbers c.args.seats.now c.args.component c.args.ports) (sym c.as_slice-places.ensures.value) c.in_ok-numbers.ensures in
-    are_there its_receiver c.args.queues.now c.args.seats.now c.args.component c.args.ports c.as_slice-places.result.now are c.args.slots.now c.requires.there
+    are_there its_receiver (map (λ queue. queue.now) c.args.queues.now) c.args.seats.now c.args.component c.args.ports c.as_slice-places.result.now are c.args.slots.now c.requires.there
 
 pub rx_ends-requires : goal.rx_ends-requires
 rx_ends-requires c =
     let are : AreNumbers c.args.seats.now c.args.component c.args.ports c.as_slice-places.result.now = subst (AreNumbers c.args.seats.now c.args.component c.args.ports) (sym c.as_slice-places.ensures.value) c.in_ok-numbers.ensures in
-    are_receivers c.args.queues.now c.args.seats.now c.args.component c.args.ports c.as_slice-places.result.now are c.args.slots.now c.requires.there c.take_at.new.slots c.in_ok-sides.sides.items c.in_ok-sides.ensures
+    are_receivers (map (λ queue. queue.now) c.args.queues.now) c.args.seats.now c.args.component c.args.ports c.as_slice-places.result.now are c.args.slots.now c.requires.there c.take_at.new.slots c.in_ok-sides.sides.items c.in_ok-sides.ensures
 
 pub returns-clause-fresh : goal.returns-clause-fresh
 returns-clause-fresh c =
     let are : AreNumbers c.args.seats.now c.args.component c.args.ports c.as_slice-places.result.now = subst (AreNumbers c.args.seats.now c.args.component c.args.ports) (sym c.as_slice-places.ensures.value) c.in_ok-numbers.ensures in
-    subst (λ numbers. AreFresh (λ (end : RxEnd). end.seat) its_receiver c.args.queues.now numbers c.in_ok-ends.ends.items) c.as_slice-places.ensures.value (are_fresh its_receiver c.args.queues.now c.args.seats.now c.args.component c.args.ports c.as_slice-places.result.now are c.args.slots.now c.requires.there c.take_at.new.slots c.in_ok-sides.sides.items c.in_ok-sides.ensures (λ (end : RxEnd). end.seat) c.in_ok-ends.ends.items c.in_ok-ends.ensures)
+    subst (λ numbers. AreFresh (λ (end : RxEnd). end.seat) its_receiver (map (λ queue. queue.now) c.args.queues.now) numbers c.in_ok-ends.ends.items) c.as_slice-places.ensures.value (are_fresh its_receiver (map (λ queue. queue.now) c.args.queues.now) c.args.seats.now c.args.component c.args.ports c.as_slice-places.result.now are c.args.slots.now c.requires.there c.take_at.new.slots c.in_ok-sides.sides.items c.in_ok-sides.ensures (λ (end : RxEnd). end.seat) c.in_ok-ends.ends.items c.in_ok-ends.ensures)
 
 pub returns-clause-left : goal.returns-clause-left
 returns-clause-left c =
     let are : AreNumbers c.args.seats.now c.args.component c.args.ports c.as_slice-places.result.now = subst (AreNumbers c.args.seats.now c.args.component c.args.ports) (sym c.as_slice-places.ensures.value) c.in_ok-numbers.ensures in
-    sides_left its_receiver c.args.queues.now c.args.seats.now c.args.component c.args.ports c.as_slice-places.result.now are c.args.slots.now c.requires.there c.take_at.new.slots c.in_ok-sides.sides.items c.in_ok-sides.ensures
+    sides_left its_receiver (map (λ queue. queue.now) c.args.queues.now) c.args.seats.now c.args.component c.args.ports c.as_slice-places.result.now are c.args.slots.now c.requires.there c.take_at.new.slots c.in_ok-sides.sides.items c.in_ok-sides.ensures
