@@ -1,0 +1,14 @@
+//! The channels of a run that go by proxy: both ends of each are made over the wires that a dialer gives, once each, in the
+//! order of the channels' numbers.
+#![tactic(auto)]
+
+pub mod build_bad;
+mod dialing;
+mod faults;
+pub mod proxied;
+pub mod route;
+
+pub use build_bad::BuildBad;
+pub use dialing::dial_all;
+pub use proxied::Proxied;
+pub use route::Route;
