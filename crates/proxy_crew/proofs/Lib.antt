@@ -1,1 +1,2 @@
 pub mod Dialed
+pub mod Engaged

@@ -1,1 +1,3 @@
 pub mod Dialing
+pub mod Engaging
+pub mod Ending

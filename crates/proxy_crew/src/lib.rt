@@ -4,11 +4,15 @@
 
 pub mod build_bad;
 mod dialing;
+mod ending;
+mod engaging;
 mod faults;
 pub mod proxied;
 pub mod route;
 
 pub use build_bad::BuildBad;
 pub use dialing::dial_all;
+pub use ending::wire_end;
+pub use engaging::engage;
 pub use proxied::Proxied;
 pub use route::Route;
