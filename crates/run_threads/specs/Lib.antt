@@ -9,6 +9,7 @@ pub mod Numbers
 pub mod Ends
 pub mod Stock
 pub mod Sharing
+pub mod Merging
 pub mod Dealing
 pub mod Building
 pub mod Closing

@@ -9,6 +9,7 @@ mod dealing;
 mod ends;
 mod finish;
 pub mod laws;
+mod merging;
 mod numbers;
 pub mod part;
 mod parting;
