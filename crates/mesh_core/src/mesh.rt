@@ -212,7 +212,8 @@ impl<V: Device> Mesh<V> {
 
     fn carry_each(&mut self, awake: Awake) -> Result<Woken, NoMemory>
         requires { IsMesh V.behaviour V.settled self.old }
-        ensures { IfOk result (λ woken. CarriesEach V.behaviour awake (length self.old.ways) self.old self.new woken.moved) }
+        ensures { IfOk result (λ woken.
+            CarriesEach V.behaviour awake (length self.old.ways) self.old self.new woken.moved) }
     {
         let channels = self.ways.len();
         let mut woken = Woken::none();
@@ -225,7 +226,9 @@ impl<V: Device> Mesh<V> {
     /// A channel's turn, if one of its ends is awake.
     fn carry(&mut self, awake: Awake, channel: usize, woken: Woken) -> Result<Woken, NoMemory>
         requires { IsMesh V.behaviour V.settled self.old }
-        ensures { IfOk result (λ then. (moved : Bool) × Carries V.behaviour awake channel self.old self.new moved × (then.moved ≡ woken.moved || moved)) }
+        ensures { IfOk result (λ then.
+            (moved : Bool) × Carries V.behaviour awake channel self.old self.new moved ×
+            (then.moved ≡ woken.moved || moved)) }
     {
         if channel >= self.ways.len() {
             return Ok(woken);

@@ -60,7 +60,8 @@ impl Agenda {
     /// Says that a component has something to do at a time, and maybe sooner.
     pub fn note(&mut self, component: u32, at: Time)
         requires { at < 2 ^ 57 }
-        ensures { self.new ≡ slice_set self.old component (Some (sooner at (slice_index_or self.old component None))) }
+        ensures { self.new ≡
+            slice_set self.old component (Some (sooner at (slice_index_or self.old component None))) }
     {
         let index = component as usize;
         if index < self.components {

@@ -15,7 +15,8 @@ use std::thread::Threads;
 
 // Opens the stream with an introduction, and takes it out.
 fn open(queue: &SlotQueue, producer: &mut Producer, consumer: &mut Consumer) -> bool
-    requires { (producer.old.queue ≡ queue.now.name) × (producer.old.sent ≡ []) × (consumer.old.queue ≡ queue.now.name) }
+    requires { (producer.old.queue ≡ queue.now.name) × (producer.old.sent ≡ []) ×
+        (consumer.old.queue ≡ queue.now.name) }
     ensures names { (producer.new.queue ≡ queue.now.name) × (consumer.new.queue ≡ queue.now.name) }
     ensures rising { IsTrue result → IsRising producer.new.kind producer.new.sent 1 }
 {
@@ -60,7 +61,8 @@ fn take(queue: &SlotQueue, end: &mut Consumer) -> u64
 
 // Passes messages on one thread, and says how many came out.
 fn pass(queue: &SlotQueue, producer: &mut Producer, consumer: &mut Consumer, count: u32) -> u64
-    requires { (producer.old.queue ≡ queue.now.name) × (consumer.old.queue ≡ queue.now.name) × IsRising producer.old.kind producer.old.sent 1 }
+    requires { (producer.old.queue ≡ queue.now.name) × (consumer.old.queue ≡ queue.now.name) ×
+        IsRising producer.old.kind producer.old.sent 1 }
 {
     let mut passed = 0u64;
     for _ in 0..count {
