@@ -12,7 +12,7 @@ use Rattle.sb_frame.specs.Frames.{AreFrames}
 use Rattle.sb_frame.specs.Frames.AreFrames.{none_yet as no_frame}
 use Rattle.sb_message.specs.declared.message.Msg.{Msg}
 use Rattle.slot_queue.specs.declared.ends.RxEnd.{RxEnd}
-use Rattle.slot_queue.specs.Ends.{Receiver}
+use Rattle.slot_queue.specs.Ends.{Receiver, Popped}
 use Rattle.tcp_proxy.specs.declared.hop.Hop.{Hop}
 use Rattle.tcp_proxy.specs.declared.hop.ProxyBad.{ProxyBad}
 use Rattle.tcp_proxy.specs.Turns.{Never}
@@ -24,7 +24,7 @@ use Rattle.worker_rounds.specs.Passes.Went.{stood, turned}
 use Rattle.proxy_members.specs.declared.out_member.OutMember.{OutMember}
 use Rattle.proxy_members.specs.QueueEnds.{rx_kind, rx_stands, rx_pops, rx_empties}
 use Rattle.proxy_members.specs.Faults.{fault_of}
-use Rattle.proxy_members.specs.Outward.{OutFits, OutDid, OutFailed, OutWent, OutSays}
+use Rattle.proxy_members.specs.Outward.{OutFits, OutDid, OutFailed, OutWent, OutSays, IsBegun}
 use Rattle.proxy_members.specs.Outward.OutSays.{its_wire_failed, memory_was_wanting}
 use Rattle.proxy_members.specs.OutLaws.{frames_on, out_keeps}
 
@@ -43,15 +43,20 @@ record TookOut (a b : RxEnd) (messages : List Msg) : Type 0 where
   queue : b.seat.queue ≡ a.seat.queue
   kind : b.seat.kind ≡ a.seat.kind
   received : b.seat.received ≡ a.seat.received ++ messages
+  stream : IsBegun a.seat.kind a.seat.received → IsBegun b.seat.kind b.seat.received
+
+begun_more : (old : Receiver) (m : Msg) (new : Receiver) → Popped old m new → IsBegun new.kind new.received
+begun_more old m new popped = subst (λ (r : Receiver). IsBegun r.kind r.received) (sym popped.after) (inr popped.stream)
 
 ran_popped : (a b : RxEnd) (messages : List Msg) → Ran rx_pops Never a messages b → TookOut a b messages
-ran_popped a b messages none_yet = record { queue = refl; kind = refl; received = sym (append-nil a.seat.received) }
+ran_popped a b messages none_yet = record { queue = refl; kind = refl; received = sym (append-nil a.seat.received); stream = λ begun. begun }
 ran_popped a b messages (and_does before c d m ran popped) =
     let first : TookOut a c before = ran_popped a c before ran in
     record {
       queue = ap (λ (r : Receiver). r.queue) popped.after ∙ first.queue;
       kind = ap (λ (r : Receiver). r.kind) popped.after ∙ first.kind;
       received = ap (λ (r : Receiver). r.received) popped.after ∙ ap (λ l. l ++ m ∷ []) first.received ∙ append_assoc a.seat.received before (m ∷ []);
+      stream = λ begun. begun_more c.seat m b.seat popped;
     }
 ran_popped a b messages (and_fails before c d ran never) = elim never [ ]
 
@@ -61,6 +66,7 @@ then_none a last b messages (inr emptied) took = record {
   queue = ap (λ (r : Receiver). r.queue) emptied ∙ took.queue;
   kind = ap (λ (r : Receiver). r.kind) emptied ∙ took.kind;
   received = ap (λ (r : Receiver). r.received) emptied ∙ took.received;
+  stream = λ begun. subst (λ (r : Receiver). IsBegun r.kind r.received) (sym emptied) (took.stream begun);
 }
 
 module _ {O : Type 0} (seen : O → OutSeen) where
@@ -84,6 +90,7 @@ module _ {O : Type 0} (seen : O → OutSeen) where
         queue = took.queue;
         kind = took.kind;
         popped = (takes.messages, sym took.received);
+        stream = took.stream;
         kept = (takes.frames, sym takes.longer);
       }
 
@@ -93,11 +100,12 @@ module _ {O : Type 0} (seen : O → OutSeen) where
     queue = more.queue ∙ first.queue;
     kind = more.kind ∙ first.kind;
     popped = prefix_on a.near.seat.received b.near.seat.received c.near.seat.received first.popped more.popped;
+    stream = λ begun. more.stream (first.stream begun);
     kept = prefix_on a.proxy.kept b.proxy.kept c.proxy.kept first.kept more.kept;
   }
 
   pub turns_went : (old : OutMember O) (n : ℕ) (new : OutMember O) → Went (OutDid seen) old n new → OutWent old new
-  turns_went old _ _ stood = record { channel = refl; queue = refl; kind = refl; popped = prefix_self old.near.seat.received; kept = prefix_self old.proxy.kept }
+  turns_went old _ _ stood = record { channel = refl; queue = refl; kind = refl; popped = prefix_self old.near.seat.received; stream = λ begun. begun; kept = prefix_self old.proxy.kept }
   turns_went old _ _ (turned n mid new before did) = went_on old mid new (turns_went old n mid before) (turned_went mid new _ did.channel did.turned)
 
   pub turns_fit : (old : OutMember O) (n : ℕ) (new : OutMember O) → Went (OutDid seen) old n new → OutFits seen old → OutFits seen new

@@ -1,7 +1,10 @@
 -- The sending end of a channel over a byte stream, on a worker.
-use Rattle.std.specs.Prelude.{ℕ, ◌≡◌, ◌+◌, ◌<◌, ◌%◌, ◌^◌, Ok, Err}
+use Rattle.std.specs.Prelude.{ℕ, ◌≡◌, ◌⊎◌, ◌+◌, ◌<◌, ◌%◌, ◌^◌, List, [], Ok, Err}
 use mathlib.Core.List.{IsPrefix}
+use Rattle.cs_base.specs.declared.port_kind.PortKind.{PortKind}
 use Rattle.cs_base.specs.Wires.{OutSeen}
+use Rattle.sb_message.specs.declared.message.Msg.{Msg}
+use Rattle.sb_message.specs.Stream.{IsStream}
 use Rattle.sb_frame.specs.Frames.{AreFrames}
 use Rattle.tcp_proxy.specs.declared.hop.Hop.{Hop}
 use Rattle.tcp_proxy.specs.declared.hop.ProxyBad.{ProxyBad}
@@ -40,12 +43,19 @@ pub record OutFailed {O : Type 0} (seen : O → OutSeen) (old : OutMember O) (fa
   pub told : IsToldOut seen old.proxy → IsToldOut seen new.proxy
   pub turns : new.proxy.turns ≡ (old.proxy.turns + 1) % 2 ^ 64
 
--- what turns leave: channel and queue are the same, and what was taken out and what is kept went on
+-- messages to a port of this kind: none, or a stream
+abbrev pub IsBegun : PortKind → List Msg → Type 0
+IsBegun kind messages = (messages ≡ []) ⊎ IsStream kind messages
+
+-- what turns leave: channel and queue are the same, and what was taken out and what is kept went on, as a
+-- stream if it was one
 pub record OutWent {O : Type 0} (old new : OutMember O) : Type 0 where
   pub channel : new.channel ≡ old.channel
   pub queue : new.near.seat.queue ≡ old.near.seat.queue
   pub kind : new.near.seat.kind ≡ old.near.seat.kind
   pub popped : IsPrefix old.near.seat.received new.near.seat.received
+  pub stream : IsBegun old.near.seat.kind old.near.seat.received
+      → IsBegun new.near.seat.kind new.near.seat.received
   pub kept : IsPrefix old.proxy.kept new.proxy.kept
 
 -- the cause of a fault

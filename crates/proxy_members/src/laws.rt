@@ -10,7 +10,7 @@ ghost use Rattle.proxy_members.specs.Inward.{InFits, InHolds, InDid, InFailed, I
 use cs_base::wires::{WireIn, WireOut};
 
 /// Turns of a sending end that meet no fault leave the kept bytes the frames of all that was taken out of the near queue,
-/// and add to both.
+/// add to both, and keep what was taken out a stream.
 pub fn turns_of_a_sending_end<O: WireOut>()
     ensures went { (old new : Sending O) (n : ℕ) → Went (OutDid O.seen) old n new
         → OutWent old new }
