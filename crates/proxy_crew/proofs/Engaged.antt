@@ -1,56 +1,79 @@
--- The ends of channels come to workers one after another.
-use Rattle.std.proofs.Common.{◌≡◌, ℕ, List, [], ◌∷◌, ◌++◌, length, reverse, refl, sym, ap, ◌∙◌, subst, append_assoc, append-nil}
-use Rattle.std.proofs.lemmas.List.{reverse-append, reverse-reverse}
-use Rattle.proxy_members.specs.declared.in_member.InMember.{InMember}
-use Rattle.proxy_members.specs.declared.out_member.OutMember.{OutMember}
+-- Workers behind whose components the ends of channels stand.
+use Rattle.std.proofs.Common.{◌≡◌, ◌≢◌, ℕ, ◌<◌, ◌%◌, List, [], ◌∷◌, ◌++◌, length, get_or, map, reverse, take, drop, sym, ap, ◌∙◌, subst, append_assoc, append-nil}
+use Rattle.std.specs.Prelude.{slice_set}
+use Rattle.std.proofs.lemmas.List.{length-set, length-map, get_or-set_same, get_or-set_other, set-set, set-get_or, reverse-append, reverse-reverse, take_at}
+use Rattle.std.proofs.lemmas.Nat.{mod_below}
+use Rattle.std.proofs.lemmas.Option.{same_Some, slice_get-get_or, slice_get_within}
 use Rattle.worker_rounds.specs.Rounds.{Work}
-use Rattle.crew_members.specs.declared.hand.Hand.{Hand}
-use Rattle.crew_members.specs.Hands.{component_of, sending_of, receiving_of}
-use Rattle.crew_members.specs.Sorts.{among}
-use Rattle.crew_members.specs.Staffing.{OneMore}
+use Rattle.crew_members.specs.declared.hand.Hand.TheVariants.{Sending, Receiving}
+use Rattle.crew_members.specs.Staffing.{as_hands, OneMore}
 use Rattle.proxy_crew.specs.declared.proxied.Proxied.{Proxied}
-use Rattle.proxy_crew.specs.Engaging.{HaveCome, sender_place, receiver_place, sending_end, receiving_end}
-use Rattle.proxy_crew.specs.Engaging.HaveCome.{none_came, one_came}
+use Rattle.proxy_crew.specs.Engaging.{Workers, AreEngaged}
+use Rattle.proxy_crew.specs.Engaging.AreEngaged.{none_came, one_came}
 
-abbrev pub Mates : Type 0 → Type 0 → Type 0 → Type 0
-Mates C O I = Work (Hand C (OutMember O) (InMember I))
+-- ONE MORE
 
--- of all channels the ends of the first ones have come, and the rest stand in turned order
-pub record AreComing {C O I : Type 0} (count : ℕ) (all : List (Proxied O I)) (old : List (Mates C O I)) (left : List (Proxied O I)) (now : List (Mates C O I)) : Type 0 where
+module _ {M : Type 0} (place : ℕ) (member : M) (old new : List (Work M)) (more : OneMore place member old new) where
+  pub as_many : length new ≡ length old
+  as_many = ap length more.is ∙ length-set old place _
+
+  pub within : place < length old
+  within = slice_get_within old place more.before more.there
+
+  pub was : (d : Work M) → get_or old place d ≡ more.before
+  was d = same_Some (get_or old place d) more.before (sym (slice_get-get_or old place d within) ∙ more.there)
+
+  abbrev pub after : Work M
+  after = record { number = more.before.number; members = more.before.members ++ member ∷ []; fault = more.before.fault }
+
+  pub is_now : (d : Work M) → get_or new place d ≡ after
+  is_now d = ap (λ l. get_or l place d) more.is ∙ get_or-set_same old place after d within
+
+  pub another : (k : ℕ) (d : Work M) → k ≢ place → get_or new k d ≡ get_or old k d
+  another k d differ = ap (λ l. get_or l k d) more.is ∙ get_or-set_other old place k after d differ
+
+  -- what was there is what is there with its worker put back
+  pub put_back : slice_set new place more.before ≡ old
+  put_back = ap (λ l. slice_set l place more.before) more.is ∙ set-set old place after more.before ∙ ap (slice_set old place) (sym (was more.before)) ∙ set-get_or old place more.before
+
+-- ENGAGED
+
+pub engaged_many : {C O I : Type 0} (parts : List (Work C)) (ends : List (Proxied O I)) (workers : Workers C O I) → AreEngaged parts ends workers → length workers ≡ length parts
+engaged_many parts _ _ (none_came workers is) = ap length is ∙ length-map parts as_hands
+engaged_many parts _ _ (one_came before one old mid new so_far sent received) = as_many (one.route.receiver % length parts) (Receiving one.receiving) mid new received ∙ as_many (one.route.sender % length parts) (Sending one.sending) old mid sent ∙ engaged_many parts before old so_far
+
+-- the ends of so many channels came, and the others stand in turned order
+pub record AreComing {C O I : Type 0} (parts : List (Work C)) (all left : List (Proxied O I)) (made : Workers C O I) : Type 0 where
   pub front : List (Proxied O I)
   pub whole : front ++ reverse left ≡ all
-  pub as_many : length now ≡ count
-  pub components : among component_of now ≡ among component_of old
-  pub sending : HaveCome (sender_place count) sending_end (among sending_of old) front (among sending_of now)
-  pub receiving : HaveCome (receiver_place count) receiving_end (among receiving_of old) front (among receiving_of now)
+  pub engaged : AreEngaged parts front made
 
-module _ {C O I : Type 0} (count : ℕ) (all : List (Proxied O I)) (old : List (Mates C O I)) where
-  pub coming : length old ≡ count → (left : List (Proxied O I)) → left ≡ reverse all → AreComing count all old left old
-  coming many left is = record {
-    front = [];
-    whole = ap reverse is ∙ reverse-reverse all;
-    as_many = many;
-    components = refl;
-    sending = none_came;
-    receiving = none_came;
+module _ {C O I : Type 0} (parts : List (Work C)) (all : List (Proxied O I)) where
+  pub none_yet : (left : List (Proxied O I)) (made : Workers C O I) → left ≡ reverse all → made ≡ map as_hands parts → AreComing parts all left made
+  none_yet left made is none = record { front = []; whole = ap reverse is ∙ reverse-reverse all; engaged = none_came made none }
+
+  pub one_then : (left left' : List (Proxied O I)) (old mid new : Workers C O I) (one : Proxied O I) → AreComing parts all left old → left ≡ left' ++ one ∷ [] → OneMore (one.route.sender % length parts) (Sending one.sending) old mid → OneMore (one.route.receiver % length parts) (Receiving one.receiving) mid new → AreComing parts all left' new
+  one_then left left' old mid new one so_far first sent received = record {
+    front = so_far.front ++ one ∷ [];
+    whole = append_assoc so_far.front (one ∷ []) (reverse left') ∙ ap (λ l. so_far.front ++ l) (sym (ap reverse first ∙ reverse-append left' (one ∷ []))) ∙ so_far.whole;
+    engaged = one_came so_far.front one old mid new so_far.engaged sent received;
   }
 
-  module _ (left : List (Proxied O I)) (now : List (Mates C O I)) (so_far : AreComing count all old left now) where
-    pub comes : (left' : List (Proxied O I)) (one : Proxied O I) (new : List (Mates C O I)) → left ≡ left' ++ one ∷ [] → length new ≡ length now → among component_of new ≡ among component_of now → OneMore (sender_place (length now) one) (sending_end one) (among sending_of now) (among sending_of new) → OneMore (receiver_place (length now) one) (receiving_end one) (among receiving_of now) (among receiving_of new) → AreComing count all old left' new
-    comes left' one new last many components sending receiving = record {
-      front = so_far.front ++ one ∷ [];
-      whole = append_assoc so_far.front (one ∷ []) (reverse left') ∙ ap (λ l. so_far.front ++ l) (sym (reverse-append left' (one ∷ [])) ∙ sym (ap reverse last)) ∙ so_far.whole;
-      as_many = many ∙ so_far.as_many;
-      components = components ∙ so_far.components;
-      sending = one_came so_far.front one (among sending_of now) (among sending_of new) so_far.sending (subst (λ n. OneMore (sender_place n one) (sending_end one) (among sending_of now) (among sending_of new)) so_far.as_many sending);
-      receiving = one_came so_far.front one (among receiving_of now) (among receiving_of new) so_far.receiving (subst (λ n. OneMore (receiver_place n one) (receiving_end one) (among receiving_of now) (among receiving_of new)) so_far.as_many receiving);
-    }
+  pub all_came : (left : List (Proxied O I)) (made : Workers C O I) → AreComing parts all left made → left ≡ [] → AreEngaged parts all made
+  all_came left made so_far none = subst (λ l. AreEngaged parts l made) (sym (append-nil so_far.front) ∙ ap (λ l. so_far.front ++ reverse l) (sym none) ∙ so_far.whole) so_far.engaged
 
-    all_front : left ≡ [] → so_far.front ≡ all
-    all_front none = sym (append-nil so_far.front) ∙ ap (λ l. so_far.front ++ reverse l) (sym none) ∙ so_far.whole
+  pub came_many : (left : List (Proxied O I)) (made : Workers C O I) → AreComing parts all left made → length made ≡ length parts
+  came_many left made so_far = engaged_many parts so_far.front made so_far.engaged
 
-    pub sending_came : left ≡ [] → HaveCome (sender_place count) sending_end (among sending_of old) all (among sending_of now)
-    sending_came none = subst (λ l. HaveCome (sender_place count) sending_end (among sending_of old) l (among sending_of now)) (all_front none) so_far.sending
+-- IN A VECTOR
 
-    pub receiving_came : left ≡ [] → HaveCome (receiver_place count) receiving_end (among receiving_of old) all (among receiving_of now)
-    receiving_came none = subst (λ l. HaveCome (receiver_place count) receiving_end (among receiving_of old) l (among receiving_of now)) (all_front none) so_far.receiving
+-- a slice that was lent for a vector's whole length
+pub written : {A : Type 0} (len : ℕ) (items new : List A) → length new ≡ len → take len (new ++ drop (length new) items) ≡ new
+written len items new is = take_at new (drop (length new) items) len is
+
+pub place_within : {C : Type 0} {W : Type 0} (parts : List C) (number count : ℕ) → 0 < length parts → count ≡ length parts → (slice workers : List W) → slice ≡ workers → length workers ≡ length parts → number % count < length slice
+place_within parts number count some is slice workers same many = subst (λ n. number % count < n) (is ∙ sym many ∙ sym (ap length same)) (mod_below number count (subst (λ n. 0 < n) (sym is) some))
+
+-- by the number of workers
+pub at_count : {M : Type 0} (number count others : ℕ) → count ≡ others → (member : M) (old slice new : List (Work M)) → slice ≡ old → OneMore (number % count) member slice new → OneMore (number % others) member old new
+at_count number count others same member old slice new is more = subst (λ n. OneMore (number % n) member old new) same (subst (λ l. OneMore (number % count) member l new) is more)

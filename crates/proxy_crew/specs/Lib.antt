@@ -1,3 +1,4 @@
 pub mod Dialing
 pub mod Engaging
 pub mod Ending
+pub mod Leaving
