@@ -1,7 +1,6 @@
 -- Members that are taken back from the workers to which they were dealt.
-use Rattle.std.proofs.Common.{◌≡◌, ℕ, ◌+◌, ◌*◌, ◌/◌, ◌%◌, ◌<◌, Bool, true, false, eqb, List, [], ◌∷◌, ◌++◌, length, get_or, reverse, Option, Some, None, refl, sym, ap, ◌∙◌, subst, arith, append_assoc, append-nil, length-append}
+use Rattle.std.proofs.Common.{◌≡◌, ℕ, ◌+◌, ◌*◌, ◌/◌, ◌%◌, ◌<◌, Bool, true, false, eqb, List, [], ◌∷◌, ◌++◌, length, get_or, reverse, Some, None, refl, sym, ap, ◌∙◌, subst, arith, append_assoc, append-nil, length-append}
 use Rattle.std.specs.Prelude.{slice_get, slice_set}
-use Rattle.std.specs.Option.{option_to_list}
 use Rattle.std.proofs.Math.Nat.{mod-add-div', mul_comm}
 use Rattle.std.proofs.lemmas.Nat.{mul-add-lt, mod_below}
 use Rattle.std.proofs.lemmas.Bool.{eqb-true, eqb-false}
@@ -9,7 +8,7 @@ use Rattle.std.proofs.lemmas.List.{length-set, reverse-append, reverse-reverse}
 use Rattle.std.proofs.lemmas.Option.{same_Some, slice_get-get_or, slice_get_within}
 use Rattle.run_laws.proofs.Lists.{slice_get-set_same, slice_get-set_other}
 use Rattle.worker_rounds.specs.Rounds.{Work}
-use Rattle.run_threads.specs.Dealing.{AreSpread, LastMoved}
+use Rattle.run_threads.specs.Dealing.{AreSpread}
 use Rattle.run_threads.proofs.Dealt.{get_last, get_other, same_row, same_column}
 
 -- LAST ELEMENTS
@@ -49,12 +48,15 @@ none_past : {X : Type 0} (xs : List X) → slice_get xs (length xs) ≡ None
 none_past [] = refl
 none_past (x ∷ xs) = none_past xs
 
--- what a move of a worker's last member does, with a member and without one
-pub moved_some : {M : Type 0} (from from' to to' : List M) (member : M) (found : Option M) → from ≡ from' ++ option_to_list found → found ≡ Some member → to' ≡ to ++ member ∷ [] → LastMoved from to from' to'
-moved_some from from' to to' member found left is came = λ front last last_is. (let both : from' ++ member ∷ [] ≡ front ++ last ∷ [] = sym (left ∙ ap (λ o. from' ++ option_to_list o) is) ∙ last_is in (same_front from' front member last both, came ∙ ap (λ m. to ++ m ∷ []) (same_last from' front member last both)))
+-- the last member of a worker that has any went to the end of a list
+abbrev pub LastMoved : {M : Type 0} → List M → List M → List M → List M → Type 0
+LastMoved {M} from to from' to' = (front : List M) (last : M) → from ≡ front ++ last ∷ []
+    → (from' ≡ front) × (to' ≡ to ++ last ∷ [])
 
-pub moved_none : {M : Type 0} (from from' to to' : List M) → from ≡ [] → LastMoved from to from' to'
-moved_none from from' to to' none = λ front last last_is. absurd (let many : 0 ≡ length (front ++ last ∷ []) = ap length (sym none ∙ last_is) in let sum : length (front ++ last ∷ []) ≡ length front + 1 = length-append front (last ∷ []) in omega arith)
+-- so many members that were dealt to workers were taken back, from the last one down
+abbrev pub Collected : {M : Type 0} → ℕ → List (Work M) → List M → Type 0
+Collected {M} count workers members = (all : List M) → length all ≡ count → AreSpread workers all
+    → members ≡ reverse all
 
 -- ONE FEWER
 
@@ -171,14 +173,10 @@ pub record IsCollecting {M : Type 0} (all : List M) (number : ℕ) (workers : Li
   pub spread : AreSpread workers front
   pub taken : members ≡ reverse rest
 
--- whichever were dealt before
-abbrev pub AreCollecting : {M : Type 0} → ℕ → List (Work M) → ℕ → List (Work M) → List M → Type 0
-AreCollecting {M} count first number workers members = (all : List M) → length all ≡ count → AreSpread first all → IsCollecting all number workers members
+pub collecting_starts : {M : Type 0} (all : List M) (count : ℕ) (workers : List (Work M)) (members : List M) → members ≡ [] → length all ≡ count → AreSpread workers all → IsCollecting all count workers members
+collecting_starts all count workers members none many spread = record { front = all; rest = []; whole = append-nil all; as_many = many; spread = spread; taken = none }
 
-pub collecting_starts : {M : Type 0} (count : ℕ) (workers : List (Work M)) (members : List M) → members ≡ [] → AreCollecting count workers count workers members
-collecting_starts count workers members none = λ all many spread. record { front = all; rest = []; whole = append-nil all; as_many = many; spread = spread; taken = none }
-
-one_taken : {M : Type 0} (all : List M) (number number' : ℕ) (workers : List (Work M)) (members : List M) → IsCollecting all number workers members → number ≡ number' + 1 → (d worker' : Work M) (members' : List M) → LastMoved (get_or workers (number' % length workers) d).members members worker'.members members' → IsCollecting all number' (slice_set workers (number' % length workers) worker') members'
+pub one_taken : {M : Type 0} (all : List M) (number number' : ℕ) (workers : List (Work M)) (members : List M) → IsCollecting all number workers members → number ≡ number' + 1 → (d worker' : Work M) (members' : List M) → LastMoved (get_or workers (number' % length workers) d).members members worker'.members members' → IsCollecting all number' (slice_set workers (number' % length workers) worker') members'
 one_taken {M} all number number' workers members so_far is d worker' members' moved = record {
   front = parted.front;
   rest = parted.last ∷ so_far.rest;
@@ -199,9 +197,6 @@ one_taken {M} all number number' workers members so_far is d worker' members' mo
 
     here : slice_get workers (length parted.front % length workers) ≡ Some (get_or workers (number' % length workers) d)
     here = ap (λ k. slice_get workers (k % length workers)) many ∙ slice_get-get_or workers (number' % length workers) d (mod_below number' (length workers) spread.some_worker)
-
-pub collecting_more : {M : Type 0} (count : ℕ) (first : List (Work M)) (number number' : ℕ) (workers : List (Work M)) (members : List M) → AreCollecting count first number workers members → number ≡ number' + 1 → (d worker' : Work M) (members' : List M) → LastMoved (get_or workers (number' % length workers) d).members members worker'.members members' → AreCollecting count first number' (slice_set workers (number' % length workers) worker') members'
-collecting_more count first number number' workers members so_far is d worker' members' moved = λ all many spread. one_taken all number number' workers members (so_far all many spread) is d worker' members' moved
 
 no_front : {M : Type 0} (front rest : List M) → length front ≡ 0 → front ++ rest ≡ rest
 no_front [] rest none = refl

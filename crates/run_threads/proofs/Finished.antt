@@ -20,10 +20,10 @@ use Rattle.run_threads.specs.declared.closing.Closing.{Closing}
 use Rattle.run_threads.specs.declared.part.Part.{Part}
 use Rattle.run_threads.specs.Closing.{HasRoomFor}
 use Rattle.run_threads.specs.CrewOf.{part_at, sender_at, receiver_at}
-use Rattle.run_threads.specs.Dealing.{Collected}
 use Rattle.run_threads.specs.Leaving.{IsLeft}
 use Rattle.run_threads.specs.Parting.{HaveOwnPlaces, AreBack, AreFilled, AreSidesIn, runner_of, txs_of, rxs_of, departures_of, arrivals_of}
 use Rattle.run_threads.specs.Seating.{tx_name, rx_name, IsSeated, AreSeats}
+use Rattle.run_threads.proofs.Collected.{Collected}
 use Rattle.run_threads.proofs.Seatings.{IsTable, table_of, within_components, are_spread, own_places, are_filled, side_there, many_sides, side_named}
 
 length_turned : {X : Type 0} (xs ys : List X) → reverse xs ≡ ys → length xs ≡ length ys
@@ -74,7 +74,7 @@ module _ {V : Type 0} (components : ℕ) (links : List Link) (near far : List Ta
             let end = seated.sending.of_channel k ch at in
             side_there txs_of departures_of tx_name (λ (x : Channel). x.from) links near workers seated.sending components table within senders sent_back (λ (e : TxEnd). e.seat) producers seats k ch at ∙ sym (ap (λ (o : Option (Part V)). option_and_then (λ part. option_map (λ (e : TxEnd). e.seat) (slice_get part.driver.txs.items ch.from.port)) o) end.there ∙ ap (option_map (λ (e : TxEnd). e.seat)) end.here)
 
-        producer_each : length producers ≡ length (channels links)
+        pub producer_each : length producers ≡ length (channels links)
         producer_each = many_sides txs_of departures_of tx_name (λ (x : Channel). x.from) links near workers seated.sending components table within senders sent_back (λ (e : TxEnd). e.seat) producers seats (to_send ∙ room.slots_to_send)
 
         producer_named : (k : ℕ) (one : Sender) → slice_get producers k ≡ Some one → slice_get near k ≡ Some one.queue
@@ -96,7 +96,7 @@ module _ {V : Type 0} (components : ℕ) (links : List Link) (near far : List Ta
             let end = seated.receiving.of_channel k ch at in
             side_there rxs_of arrivals_of rx_name (λ (x : Channel). x.to) links far workers seated.receiving components table within receivers received_back (λ (e : RxEnd). e.seat) consumers seats k ch at ∙ sym (ap (λ (o : Option (Part V)). option_and_then (λ part. option_map (λ (e : RxEnd). e.seat) (slice_get part.driver.rxs.items ch.to.port)) o) end.there ∙ ap (option_map (λ (e : RxEnd). e.seat)) end.here)
 
-        consumer_each : length consumers ≡ length (channels links)
+        pub consumer_each : length consumers ≡ length (channels links)
         consumer_each = many_sides rxs_of arrivals_of rx_name (λ (x : Channel). x.to) links far workers seated.receiving components table within receivers received_back (λ (e : RxEnd). e.seat) consumers seats (to_receive ∙ room.slots_to_receive)
 
         consumer_named : (k : ℕ) (one : Receiver) → slice_get consumers k ≡ Some one → slice_get far k ≡ Some one.queue

@@ -24,3 +24,8 @@ pub mod Causes
 mod Queued
 pub mod SharedOut
 pub mod Handed
+pub mod Routed
+pub mod WholeBuilt
+pub mod WholeRun
+pub mod Merged
+pub mod Regained

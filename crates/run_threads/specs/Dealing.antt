@@ -1,5 +1,7 @@
 -- Members that are dealt to workers in turn.
-use Rattle.std.specs.Prelude.{ℕ, ◌≡◌, ◌+◌, ◌*◌, ◌<◌, ◌++◌, ◌∷◌, [], List, length, reverse, slice_get, Some, None}
+use Rattle.std.specs.Prelude.{ℕ, ◌≡◌, ◌+◌, ◌*◌, ◌<◌, ◌++◌, ◌∷◌, [], List, length, map, reverse, slice_get, Some, None}
+use Rattle.crew_members.specs.declared.hand.Hand.{Hand}
+use Rattle.crew_members.specs.declared.hand.Hand.TheVariants.{Component}
 use Rattle.worker_rounds.specs.Rounds.{Work}
 
 -- member k of worker w of n workers is number w + k * n of all members, and no worker met a fault
@@ -31,12 +33,13 @@ pub record AreSpread {M : Type 0} (workers : List (Work M)) (all : List M) : Typ
   pub dealt : (w k : ℕ) (worker : Work M) → slice_get workers w ≡ Some worker
       → slice_get worker.members k ≡ slice_get all (w + k * length workers)
 
--- the last member of a worker that has any went to the end of a list
-abbrev pub LastMoved : {M : Type 0} → List M → List M → List M → List M → Type 0
-LastMoved {M} from to from' to' = (front : List M) (last : M) → from ≡ front ++ last ∷ []
-    → (from' ≡ front) × (to' ≡ to ++ last ∷ [])
+-- the last member of a worker, if it is a component, went to the end of a list of them
+abbrev pub LastPartMoved : {C O I : Type 0} → List (Hand C O I) → List C → List (Hand C O I)
+    → List C → Type 0
+LastPartMoved {C} {O} {I} from to from' to' = (front : List (Hand C O I)) (last : C)
+    → from ≡ front ++ Component last ∷ [] → (from' ≡ front) × (to' ≡ to ++ last ∷ [])
 
--- so many members that were dealt to workers were taken back, from the last one down
-abbrev pub Collected : {M : Type 0} → ℕ → List (Work M) → List M → Type 0
-Collected {M} count workers members = (all : List M) → length all ≡ count → AreSpread workers all
-    → members ≡ reverse all
+-- so many components that were dealt to workers were taken back, from the last one down
+abbrev pub PartsCollected : {C O I : Type 0} → ℕ → List (Work (Hand C O I)) → List C → Type 0
+PartsCollected {C} count workers parts = (all : List C) → length all ≡ count
+    → AreSpread workers (map Component all) → parts ≡ reverse all

@@ -15,5 +15,9 @@ pub mod Building
 pub mod Closing
 pub mod Parting
 pub mod Seating
+pub mod Routes
+pub mod Whole
 pub mod Finishing
 pub mod Faults
+pub mod Ready
+pub mod Comparing

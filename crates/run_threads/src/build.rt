@@ -1,32 +1,35 @@
 //! The parts of all components, on their workers.
-ghost use Rattle.std.specs.Prelude.{◌≡◌, ◌≤◌, ◌<◌, ◌+◌, [], length, map, All, IfOk, IfErr};
+ghost use Rattle.std.specs.Prelude.{◌≡◌, ◌≤◌, ◌<◌, ◌+◌, [], length, map, All, IfOk};
 ghost use Rattle.cs_base.specs.declared.link.Link.{Link};
 ghost use Rattle.cs_base.specs.declared.port_kind.Via.TheVariants.{Queue as ByQueue};
 ghost use Rattle.mesh_core.specs.Start.{first_runners, queues_of};
-ghost use Rattle.run_threads.specs.declared.build_bad.BuildBad.TheVariants.{NoMemory as WantOfMemory};
+ghost use Rattle.proxy_crew.specs.Dialing.{DialTells, channel_of};
 ghost use Rattle.run_threads.specs.Building.{IsPlaced, IsNewCrew, starts_of};
-ghost use Rattle.run_threads.specs.Closing.{HasRoomFor};
 ghost use Rattle.run_threads.specs.CrewOf.{IsCrewOf};
 ghost use Rattle.run_threads.specs.Dealing.{AreDealt, AreNumbered};
 ghost use Rattle.run_threads.specs.Numbers.{HaveNumbers};
 ghost use Rattle.run_threads.specs.Queues.{AreNew, as_empty, names_of, its_sender, its_receiver};
-ghost use Rattle.run_threads.specs.Proxied.{AreAllNew, near_queues, far_queues, near_names, far_names};
+ghost use Rattle.run_threads.specs.Proxied.{AreAllNew, near_queues, far_queues, near_names, far_names, proxied};
 ghost use Rattle.run_threads.specs.Sharing.{AreBetween};
+ghost use Rattle.run_threads.specs.Ready.{IsReady, MayDial, Builds};
+ghost use Rattle.run_threads.specs.Whole.{IsBuilt};
 ghost use Rattle.run_threads.specs.Stock.{HaveSides, froms_of, tos_of};
 
-use crate::build_bad::BuildBad;
 use crate::closing::Closing;
 use crate::crew::Crew;
 use crate::dealing::{deal, idle_workers};
 use crate::part::Part;
+use crate::routes::routes_of;
 use crate::sharing::{Shares, share_out};
 use crate::stock::Stock;
 use cs_base::dialer::Dialer;
 use cs_base::items::Items;
 use cs_base::no_memory::NoMemory;
+use cs_base::wires::{WireIn, WireOut};
 use cs_base::wiring::Wiring;
 use device_api::Device;
 use mesh_core::build::runners_of;
+use proxy_crew::{BuildBad, Dismissed, Route, dial_all, engage};
 use slot_queue::{Consumer, Producer, RxEnd, SlotQueue, TxEnd};
 use std::alloc::Global;
 use sync_rule::Runner;
@@ -214,10 +217,87 @@ pub(crate) fn staff<'q, V: Device>(
     Ok(Staffed { workers, outs, ins })
 }
 
-impl<'q, V: Device, O, I> Crew<'q, V, O, I> {
-    /// The crew of devices at their start that are joined by a wiring of which no link goes by proxy: their components go to
-    /// workers by number modulo the number of workers, of which there are 1 to 64, and some may have none. The queues are
-    /// those of `Queues::build` for this wiring. No channel is dialed, so that only `NoMemory` comes.
+/// A crew for which all is made but the ends of the channels by proxy.
+#[derive(Drop)]
+struct Ready<'q, V, O, I> {
+    staffed: Staffed<'q, V>,
+    routes: Vec<Route>,
+    dismissed: Dismissed<O, I>,
+    closing: Closing<'q, V>,
+}
+
+impl<'q, V: Device, O: WireOut + Drop, I: WireIn + Drop> Ready<'q, V, O, I> {
+    /// All that needs no dial.
+    fn new(
+        alloc: Global,
+        queues: &'q [SlotQueue],
+        producers: Vec<Producer>,
+        consumers: Vec<Consumer>,
+        devices: Vec<V>,
+        wiring: &Wiring,
+        workers: u32,
+    ) -> Result<Ready<'q, V, O, I>, NoMemory>
+        requires new { AreAllNew wiring.now.kinds wiring.now.links
+            queues.now producers.items consumers.items }
+        requires matches { map V.behaviour.ports devices.items ≡ wiring.now.kinds }
+        requires at_start { All (λ device. V.settled device 0) devices.items }
+        requires some_worker { 1 ≤ workers }
+        ensures ready { IfOk result (IsReady V.behaviour V.settled devices.items
+            wiring.now.kinds wiring.now.links wiring.now.end queues.now) }
+        ensures as_many { IfOk result (λ made. length made.staffed.workers.items ≡ workers) }
+    {
+        let closing = Closing::new(alloc, wiring)?;
+        let routes = routes_of(alloc, wiring.kinds.as_slice(), wiring.links.as_slice())?;
+        let dismissed = Dismissed::reserve(alloc, routes.len())?;
+        let staffed = staff(
+            alloc, queues, producers, consumers, devices, wiring, workers,
+        )?;
+        Ok(Ready {
+            staffed,
+            routes,
+            dismissed,
+            closing,
+        })
+    }
+
+    /// The crew, once each channel by proxy is dialed.
+    fn dial<D: Dialer<Out = O, In = I>>(
+        self,
+        alloc: Global,
+        dial: &mut D,
+    ) -> Result<Crew<'q, V, O, I>, BuildBad>
+        requires ready { MayDial V.behaviour V.settled self }
+        requires few { length self.staffed.workers.items ≤ 64 }
+        ensures built { IfOk result (Builds V.behaviour V.settled O.seen I.seen self.entry) }
+        ensures as_many { IfOk result (λ crew.
+            length crew.workers.items ≡ length self.entry.staffed.workers.items) }
+        ensures told { DialTells result (map channel_of self.entry.routes.items)
+            (D.seen dial.old) (D.seen dial.new) }
+    {
+        let Ready {
+            staffed,
+            routes,
+            dismissed,
+            closing,
+        } = self;
+        let Staffed { workers, outs, ins } = staffed;
+        let proxied = dial_all(alloc, routes.as_slice(), outs, ins, dial)?;
+        let workers = engage(alloc, workers, proxied)?;
+        Ok(Crew {
+            workers,
+            routes: Items::from_vec(routes),
+            dismissed,
+            closing,
+        })
+    }
+}
+
+impl<'q, V: Device, O: WireOut + Drop, I: WireIn + Drop> Crew<'q, V, O, I> {
+    /// The crew of devices at their start that are joined by a wiring: their components go to workers by number modulo the
+    /// number of workers, of which there are 1 to 64, and some may have none. The queues are those of `Queues::build_whole`
+    /// for this wiring. Each channel that goes by proxy is dialed once, in order; its sending end goes to the worker of its
+    /// sender, and its receiving end to that of its receiver. `Lost` comes only where the dialer's count of faults rose, and
+    /// names the channel that was dialed last.
     pub fn build<D: Dialer<Out = O, In = I>>(
         alloc: Global,
         queues: &'q [SlotQueue],
@@ -228,33 +308,20 @@ impl<'q, V: Device, O, I> Crew<'q, V, O, I> {
         workers: u32,
         dial: &mut D,
     ) -> Result<Crew<'q, V, O, I>, BuildBad>
-        requires new { AreNew wiring.now.kinds wiring.now.links
+        requires new { AreAllNew wiring.now.kinds wiring.now.links
             queues.now producers.items consumers.items }
         requires matches { map V.behaviour.ports devices.items ≡ wiring.now.kinds }
         requires at_start { All (λ device. V.settled device 0) devices.items }
-        requires by_queues { All (λ (link : Link). link.via ≡ ByQueue) wiring.now.links }
         requires workers { (1 ≤ workers) × (workers ≤ 64) }
-        ensures crew { IfOk result (λ crew. IsCrewOf V.behaviour V.settled devices.items
-            wiring.now.links wiring.now.end (names_of queues.now) (names_of queues.now)
-            crew.workers.items) }
-        ensures fresh { IfOk result (λ crew. IsNewCrew V.behaviour devices.items
-            wiring.now.links wiring.now.end queues.now queues.now crew.workers.items) }
+        ensures built { IfOk result (λ crew. IsBuilt V.behaviour V.settled O.seen I.seen
+            devices.items wiring.now.kinds wiring.now.links wiring.now.end queues.now crew) }
         ensures as_many { IfOk result (λ crew. length crew.workers.items ≡ workers) }
-        ensures numbered { IfOk result (λ crew. AreNumbered crew.workers.items) }
-        ensures room { IfOk result (λ crew. HasRoomFor (length devices.items) wiring.now.links
-            crew.closing) }
-        ensures no_ends { IfOk result (λ crew. crew.ends.items ≡ []) }
-        ensures fault { IfErr result (λ bad. bad ≡ WantOfMemory) }
-        ensures dialer { dial.new ≡ dial.old }
+        ensures told { DialTells result (proxied wiring.now.links)
+            (D.seen dial.old) (D.seen dial.new) }
     {
-        let closing = Closing::new(alloc, wiring)?;
-        let Staffed { workers, .. } = staff(
+        let ready = Ready::new(
             alloc, queues, producers, consumers, devices, wiring, workers,
         )?;
-        Ok(Crew {
-            workers,
-            ends: Vec::new(alloc),
-            closing,
-        })
+        ready.dial(alloc, dial)
     }
 }

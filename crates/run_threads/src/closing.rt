@@ -1,9 +1,12 @@
 //! Room for what a crew leaves.
-ghost use Rattle.std.specs.Prelude.{◌≡◌, length, vec_capacity, [], IfOk};
+ghost use Rattle.std.specs.Prelude.{◌≡◌, ◌≤◌, length, sum_by, IfOk};
 ghost use Rattle.run_threads.specs.Closing.{HasRoomFor};
+ghost use Rattle.run_threads.specs.Proxied.{queues_on};
 
 use crate::part::Part;
+use cs_base::link::Link;
 use cs_base::no_memory::NoMemory;
+use cs_base::port_kind::Via;
 use cs_base::wiring::Wiring;
 use device_api::Device;
 use mesh_core::build::ways_of;
@@ -28,9 +31,13 @@ pub(crate) struct Closing<'q, V> {
     /// A slot by the number of each channel for either end of it.
     pub(crate) senders: Vec<Option<TxEnd<'q>>>,
     pub(crate) receivers: Vec<Option<RxEnd<'q>>>,
-    /// For the sides of their queues, in order.
+    /// For the sides of their queues that the components have, in the order of the channels.
     pub(crate) producers: Vec<Producer>,
     pub(crate) consumers: Vec<Consumer>,
+    /// How the channels go, and room for the sides of all queues, in the order of the queues.
+    pub(crate) links: Vec<Link>,
+    pub(crate) all_producers: Vec<Producer>,
+    pub(crate) all_consumers: Vec<Consumer>,
 }
 
 /// So many slots with nothing in them.
@@ -44,14 +51,38 @@ fn vacant<X: Drop>(alloc: Global, count: usize) -> Result<Vec<Option<X>>, NoMemo
     Ok(slots)
 }
 
+/// How many queues the two channels of a link have together.
+fn queue_count(link: Link) -> usize
+    ensures { result ≡ queues_on link }
+{
+    match link.via {
+        Via::Queue => 2,
+        Via::Proxy => 4,
+    }
+}
+
+/// How many queues the channels of these links have.
+fn count_queues(links: &[Link]) -> usize
+    requires { length links.now ≤ 1024 }
+    ensures { result ≡ sum_by queues_on links.now }
+{
+    let mut count = 0;
+    for link in links {
+        count += queue_count(*link);
+    }
+    count
+}
+
 impl<'q, V: Device> Closing<'q, V> {
     /// The room for the components of a wiring and their channels.
     pub(crate) fn new(alloc: Global, wiring: &Wiring) -> Result<Closing<'q, V>, NoMemory>
         ensures { IfOk result (HasRoomFor (length wiring.now.kinds) wiring.now.links) }
     {
         let components = wiring.kinds.len();
-        let ways = ways_of(alloc, wiring.links.as_slice())?;
+        let links = wiring.links.as_slice();
+        let ways = ways_of(alloc, links)?;
         let channels = ways.len();
+        let queues = count_queues(links);
         Ok(Closing {
             components,
             parts: Vec::with_capacity(alloc, components)?,
@@ -62,6 +93,9 @@ impl<'q, V: Device> Closing<'q, V> {
             receivers: vacant(alloc, channels)?,
             producers: Vec::with_capacity(alloc, channels)?,
             consumers: Vec::with_capacity(alloc, channels)?,
+            links: Vec::from_slice(alloc, links)?,
+            all_producers: Vec::with_capacity(alloc, queues)?,
+            all_consumers: Vec::with_capacity(alloc, queues)?,
         })
     }
 }

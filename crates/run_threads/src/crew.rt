@@ -1,55 +1,76 @@
-ghost use Rattle.std.specs.Prelude.{◌≡◌, IfOk, IfErr, length};
-ghost use Rattle.worker_rounds.specs.Crew.{AreSound, IsFirstKept};
-ghost use Rattle.run_threads.specs.Parts.{PartFits};
-ghost use Rattle.run_threads.specs.Faults.{LeavesIntroductions, TellsCause};
-ghost use Rattle.run_threads.specs.Laws.{AllWent, HaveEnded, StaysCrew};
-ghost use Rattle.run_threads.specs.Seating.{StaysSeated};
+ghost use Rattle.proxy_members.specs.Differing.{AreInOrder};
+ghost use Rattle.run_threads.specs.Comparing.{EndsAgree};
+ghost use Rattle.run_threads.specs.Whole.{MayRun, Runs};
 
 use crate::closing::Closing;
 use crate::laws::{
-    a_fault_has_its_cause, rounds_keep_a_crew_standing, rounds_send_introductions_first,
+    a_crew_is_seated, rounds_keep_a_crew_standing, whatever_comes_leaves_parts_seated,
 };
 use crate::part::Part;
-use cs_base::{Gate, WireEnd};
+use crew_members::{Hand, rounds_of_components};
+use cs_base::items::Items;
+use cs_base::{Gate, WireEnd, WireIn, WireOut};
 use device_api::Device;
+use proxy_crew::{Dismissed, Route, dismiss, ends_stay_engaged};
+use proxy_members::{InMember, OutMember, first_that_differs};
 use std::alloc::Global;
 use std::sync::Wait;
 use std::thread::Threads;
 use worker_rounds::{MeshBad, Worker, run_all};
 
-/// The components of a run on their workers, and what is left of the channels that go by proxy.
+/// The components of a run on their workers, with the ends of the channels that go by proxy; and what is left of these
+/// channels after the run.
 #[derive(Drop)]
 pub struct Crew<'q, V, O, I> {
-    pub(crate) workers: Vec<Worker<Part<'q, V>>>,
-    pub(crate) ends: Vec<WireEnd<O, I>>,
+    pub(crate) workers: Vec<Worker<Hand<Part<'q, V>, OutMember<'q, O>, InMember<'q, I>>>>,
+    /// The channels whose ends stand on the workers.
+    pub(crate) routes: Items<Route>,
+    pub(crate) dismissed: Dismissed<O, I>,
     pub(crate) closing: Closing<'q, V>,
 }
 
+/// That what came on each of these channels is a beginning of what was sent, or the first at which it isn't.
+fn agree<O, I>(ends: &[WireEnd<O, I>]) -> Result<(), MeshBad>
+    requires { AreInOrder ends.now }
+    ensures { EndsAgree ends.now result }
+{
+    match first_that_differs(ends) {
+        Some((channel, differ)) => Err(MeshBad::Differs { channel, differ }),
+        None => Ok(()),
+    }
+}
+
 /// Lets all workers make rounds, on threads where they can be had, until all components have ended or a turn has met a
-/// fault. It may wait for ever.
-pub fn run_mesh<'q, R: Threads + Wait + Sync, V: Device + Send, O, I, G: Gate + Sync>(
+/// fault. Then the ends of the channels by proxy leave the workers, and where no fault was met, what came on each channel is
+/// compared with what was sent. It may wait for ever.
+pub fn run_mesh<'q, R, V, O, I, G>(
     rt: &R,
     alloc: Global,
     crew: &mut Crew<'q, V, O, I>,
     gate: &G,
 ) -> Result<(), MeshBad>
-    requires { AreSound (PartFits V.behaviour V.settled) crew.old.workers.items }
-    ensures went { AllWent V.behaviour V.settled crew.old.workers.items crew.new.workers.items }
-    ensures crew { IfOk result (λ _. StaysCrew V.behaviour V.settled
-        crew.old.workers.items crew.new.workers.items) }
-    ensures ended { IfOk result (λ _. HaveEnded V.behaviour crew.new.workers.items) }
-    ensures seated { StaysSeated crew.old.workers.items crew.new.workers.items }
-    ensures introduced { LeavesIntroductions V.behaviour V.settled
-        crew.old.workers.items crew.new.workers.items }
-    ensures ends { crew.new.ends ≡ crew.old.ends }
-    ensures closing { crew.new.closing ≡ crew.old.closing }
-    ensures fault { IfErr result (IsFirstKept crew.new.workers.items
-        (length crew.new.workers.items)) }
-    ensures cause { IfErr result (TellsCause V.behaviour V.settled
-        crew.old.workers.items crew.new.workers.items) }
+where
+    R: Threads + Wait + Sync,
+    V: Device + Send,
+    O: WireOut + Drop + Send,
+    I: WireIn + Drop + Send,
+    G: Gate + Sync,
+    requires built { MayRun V.behaviour V.settled O.seen I.seen crew.old }
+    ensures { Runs V.behaviour V.settled O.seen I.seen crew.old crew.new result }
 {
+    rounds_of_components::<Part<'q, V>, OutMember<'q, O>, InMember<'q, I>>();
+    ends_stay_engaged::<Part<'q, V>, O, I>();
     rounds_keep_a_crew_standing::<V>();
-    rounds_send_introductions_first::<V>();
-    a_fault_has_its_cause::<V>();
-    run_all(rt, alloc, crew.workers.as_mut_slice(), gate)
+    whatever_comes_leaves_parts_seated::<V>();
+    a_crew_is_seated::<V>();
+    let ran = run_all(rt, alloc, crew.workers.as_mut_slice(), gate);
+    dismiss(
+        crew.workers.as_mut_slice(),
+        &mut crew.routes,
+        &mut crew.dismissed,
+    );
+    match ran {
+        Ok(()) => agree(crew.dismissed.ends.as_slice()),
+        Err(fault) => Err(fault),
+    }
 }

@@ -1,7 +1,8 @@
 //! Members that are dealt to workers in turn.
 ghost use Rattle.std.specs.Prelude.{◌≡◌, ◌<◌, ◌≤◌, ◌+◌, [], length, vec_len, vec_capacity, IfOk, OnOk};
-ghost use Rattle.run_threads.specs.Dealing.{AreIdle, AreNumbered, DealtMore, LastMoved, Collected};
+ghost use Rattle.run_threads.specs.Dealing.{AreIdle, AreNumbered, DealtMore, LastPartMoved, PartsCollected};
 
+use crew_members::Hand;
 use cs_base::no_memory::NoMemory;
 use std::alloc::Global;
 use worker_rounds::Worker;
@@ -32,30 +33,34 @@ pub(crate) fn deal<M: Drop>(
     Ok(())
 }
 
-/// Moves the last member of a worker, if it has any, to the end of a list that has room for it.
-fn move_last<M>(worker: &mut Worker<M>, members: &mut Vec<M>)
-    requires { vec_len members.old < vec_capacity members.old }
-    ensures moved { LastMoved worker.old.members members.old.items
-        worker.new.members members.new.items }
-    ensures one_more { vec_len members.new ≤ vec_len members.old + 1 }
-    ensures room { vec_capacity members.new ≡ vec_capacity members.old }
+/// Moves the last member of a worker, where it is a component, to the end of a list that has room for it.
+fn move_last_part<C: Drop, O: Drop, I: Drop>(worker: &mut Worker<Hand<C, O, I>>, parts: &mut Vec<C>)
+    requires { vec_len parts.old < vec_capacity parts.old }
+    ensures moved { LastPartMoved worker.old.members parts.old.items
+        worker.new.members parts.new.items }
+    ensures one_more { vec_len parts.new ≤ vec_len parts.old + 1 }
+    ensures room { vec_capacity parts.new ≡ vec_capacity parts.old }
 {
-    if let Some(member) = worker.take_last() {
-        members.push_reserved(member);
+    if let Some(Hand::Component(part)) = worker.take_last() {
+        parts.push_reserved(part);
     }
 }
 
-/// Takes so many members that were dealt to workers back, from the last one down, into a list that has room for them.
-pub(crate) fn collect<M>(workers: &mut [Worker<M>], count: usize, members: &mut Vec<M>)
+/// Takes so many components that were dealt to workers back, from the last one down, into a list that has room for them.
+pub(crate) fn collect_parts<C: Drop, O: Drop, I: Drop>(
+    workers: &mut [Worker<Hand<C, O, I>>],
+    count: usize,
+    parts: &mut Vec<C>,
+)
     requires some_worker { 0 < length workers.old }
-    requires none { members.old.items ≡ [] }
-    requires room { count ≤ vec_capacity members.old }
-    ensures { Collected count workers.old members.new.items }
+    requires none { parts.old.items ≡ [] }
+    requires room { count ≤ vec_capacity parts.old }
+    ensures { PartsCollected count workers.old parts.new.items }
 {
     let mut number = count;
     'numbers: while number > 0 {
         number -= 1;
         let from = number % workers.len();
-        move_last(&mut workers[from], members);
+        move_last_part(&mut workers[from], parts);
     }
 }

@@ -1,17 +1,19 @@
 //! What a crew leaves.
-ghost use Rattle.std.specs.Prelude.{◌≡◌, ◌≤◌, map, length};
+ghost use Rattle.std.specs.Prelude.{◌≡◌, map, length};
 ghost use Rattle.mesh_core.specs.Left.{IsRoomFor, counts_by_port, counts_along};
-ghost use Rattle.run_threads.specs.Finishing.{MayFinish, HasFinished};
+ghost use Rattle.run_threads.specs.Finishing.{MayFinish, Finishes};
 
 use crate::closing::Closing;
 use crate::crew::Crew;
-use crate::dealing::collect;
+use crate::dealing::collect_parts;
+use crate::merging::{merge_before, merge_behind};
 use crate::parting::{consumers_in, open_all, producers_in};
 use cs_base::WireEnd;
 use cs_base::items::Items;
 use device_api::{Device, Logs, Outcome};
 use mesh_core::outcome::{Room, count_all, finish_all};
 use mesh_core::way::Way;
+use proxy_crew::Dismissed;
 use slot_queue::{Consumer, Producer};
 use sync_rule::Runner;
 
@@ -36,20 +38,20 @@ fn outcome_of<V: Device>(runners: Vec<Runner<V>>, ways: &[Way], room: Room) -> O
     }
 }
 
-impl<'q, V: Device, O, I> Crew<'q, V, O, I> {
-    /// What the components have logged so far, and how many messages were made for each channel; the two sides of the
-    /// queue of each channel, in the order of the channels; and what is left of the channels that go by proxy. It takes no
-    /// memory, and serves after a fault, too.
+impl<'q, V: Device, O: Drop, I: Drop> Crew<'q, V, O, I> {
+    /// What the components have logged so far, and how many messages were made for each channel; the two sides of each
+    /// queue, in the order of the queues; and what is left of the channels that go by proxy. It takes no memory, and serves
+    /// after a fault, too. It is called after `run_mesh`, or where no channel goes by proxy.
     pub fn finish(self) -> (Outcome, Vec<Producer>, Vec<Consumer>, Vec<WireEnd<O, I>>)
-        requires { MayFinish self.workers.items self.closing }
-        ensures finished { HasFinished self.entry.workers.items self.entry.closing
-            result.0.logs.lists result.0.counts result.1.items result.2.items }
-        ensures ends { result.3 ≡ self.entry.ends }
+        requires dismissed { MayFinish self }
+        ensures { Finishes self.entry result.0.logs.lists result.0.counts
+            result.1.items result.2.items result.3.items }
     {
         let Crew {
             mut workers,
-            ends,
+            dismissed,
             closing,
+            ..
         } = self;
         let Closing {
             components,
@@ -61,8 +63,12 @@ impl<'q, V: Device, O, I> Crew<'q, V, O, I> {
             mut receivers,
             mut producers,
             mut consumers,
+            links,
+            mut all_producers,
+            mut all_consumers,
         } = closing;
-        collect(workers.as_mut_slice(), components, &mut parts);
+        let Dismissed { ends, near, far } = dismissed;
+        collect_parts(workers.as_mut_slice(), components, &mut parts);
         open_all(
             parts,
             &mut runners,
@@ -72,6 +78,8 @@ impl<'q, V: Device, O, I> Crew<'q, V, O, I> {
         producers_in(senders, &mut producers);
         consumers_in(receivers, &mut consumers);
         let outcome = outcome_of(runners, ways.as_slice(), room);
-        (outcome, producers, consumers, ends)
+        merge_behind(links.as_slice(), producers, far, &mut all_producers);
+        merge_before(links.as_slice(), consumers, near, &mut all_consumers);
+        (outcome, all_producers, all_consumers, ends)
     }
 }

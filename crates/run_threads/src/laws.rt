@@ -1,4 +1,5 @@
 //! What holds of a crew, however its threads run.
+ghost use Rattle.run_threads.specs.Merging.{SidesMerge};
 ghost use Rattle.run_threads.specs.Proxied.{AreNewByQueue, NearIsFar};
 ghost use Rattle.run_threads.specs.Laws.{RoundsKeepIt, LeavesRun, AreSeated, RoundsIntroduce, FaultsHaveCause, WhateverComes};
 
@@ -45,4 +46,10 @@ pub fn whatever_comes_leaves_parts_seated<V: Device>()
 pub fn queues_without_proxies_are_one_a_channel()
     ensures queues { AreNewByQueue }
     ensures places { NearIsFar }
+{}
+
+/// The sides of near and far queues that the components have, and those between near and far queues, put in the order of
+/// all queues, are sides of these queues, and those of each channel stand at its queues' places.
+pub fn sides_merge()
+    ensures { SidesMerge }
 {}

@@ -1,15 +1,15 @@
-//! Two beacons that are joined by a link of queues, on workers.
+//! Two beacons that are joined by a link of queues or by proxy, on workers.
 ghost use Rattle.std.specs.Prelude.{◌≡◌, ◌≤◌, ◌^◌, ◌∷◌, [], All, map, IfOk};
-ghost use Rattle.cs_base.specs.declared.link.Link.{Link as LinkOf};
 ghost use Rattle.cs_base.specs.declared.port_kind.PortKind.TheVariants.{Eth as Ethernet};
-ghost use Rattle.cs_base.specs.declared.port_kind.Via.TheVariants.{Queue as ByQueue};
 ghost use Rattle.device_api.specs.Beacon.{IsSettledBeacon};
 
-use crate::{Crew, Part, Queues, a_crew_is_seated, run_mesh};
+use crate::{Crew, Part, Queues, run_mesh};
 use cs_base::{
-    BeaconConfig, Items, Link, ListDialer, Mac, OpenGate, PortKind, Queue, Time, Via, Wiring,
+    BeaconConfig, Dialer, Items, Link, Mac, OpenGate, PortKind, Queue, Time, Via, WireIn, WireOut,
+    Wiring,
 };
 use device_api::{Beacon, Device, Outcome};
+use pipe_wires::PipeDialer;
 use std::alloc::Global;
 use std::sync::Wait;
 use std::test::Fail;
@@ -24,11 +24,8 @@ fn one_port(alloc: Global) -> Result<Items<PortKind>, Fail>
 }
 
 /// Two ports that are joined by a link whose queues have so many slots.
-fn pair(alloc: Global, slots: u32) -> Result<Wiring, Fail>
-    ensures kinds { IfOk result (λ wiring. wiring.kinds
-        ≡ (Ethernet ∷ []) ∷ ((Ethernet ∷ []) ∷ [])) }
-    ensures by_queues { IfOk result (λ wiring.
-        All (λ (link : LinkOf). link.via ≡ ByQueue) wiring.links) }
+fn pair(alloc: Global, slots: u32, via: Via) -> Result<Wiring, Fail>
+    ensures { IfOk result (λ wiring. wiring.kinds ≡ (Ethernet ∷ []) ∷ ((Ethernet ∷ []) ∷ [])) }
 {
     let mut kinds = Items::new(alloc);
     kinds.push(one_port(alloc)?)?;
@@ -42,7 +39,7 @@ fn pair(alloc: Global, slots: u32) -> Result<Wiring, Fail>
         latency: Time(500),
         interval: Time(500),
         slots,
-        via: Via::Queue,
+        via,
     })?;
     Ok(Wiring::new(Time(2600), kinds, links).ok_or("no wiring")?)
 }
@@ -64,26 +61,30 @@ fn beacon(alloc: Global, count: u32) -> Result<Beacon, Fail>
 }
 
 /// When the components log their lines, first those of one and then those of the other, of two devices on so many workers.
-fn logged<R: Threads + Wait + Sync, V: Device + Send>(
+fn logged<R, V, O, I, D>(
     rt: &R,
     alloc: Global,
     devices: Vec<V>,
     wiring: &Wiring,
     workers: u32,
+    dialer: &mut D,
 ) -> Result<Vec<u64>, Fail>
+where
+    R: Threads + Wait + Sync,
+    V: Device + Send,
+    O: WireOut + Drop + Send,
+    I: WireIn + Drop + Send,
+    D: Dialer<Out = O, In = I>,
     requires matches { map V.behaviour.ports devices.items ≡ wiring.now.kinds }
     requires at_start { All (λ device. V.settled device 0) devices.items }
-    requires by_queues { All (λ (link : LinkOf). link.via ≡ ByQueue) wiring.now.links }
     requires workers { (1 ≤ workers) × (workers ≤ 64) }
 {
-    a_crew_is_seated::<V>();
-    let made = Queues::build(alloc, wiring)?;
+    let made = Queues::build_whole(alloc, wiring)?;
     let Queues {
         queues,
         producers,
         consumers,
     } = made;
-    let mut dialer = ListDialer::new(alloc, Queue::new(alloc));
     let mut crew = Crew::build(
         alloc,
         queues.as_slice(),
@@ -92,11 +93,11 @@ fn logged<R: Threads + Wait + Sync, V: Device + Send>(
         devices,
         wiring,
         workers,
-        &mut dialer,
+        dialer,
     )?;
     let ended = run_mesh(rt, alloc, &mut crew, &OpenGate).is_ok();
     let (outcome, senders, receivers, ends) = crew.finish();
-    if !ended || senders.len() != receivers.len() || !ends.is_empty() {
+    if !ended || senders.len() != 2 + ends.len() || receivers.len() != 2 + ends.len() {
         Err("no end")?;
     }
     times_of(alloc, &outcome)
@@ -113,22 +114,24 @@ fn times_of(alloc: Global, outcome: &Outcome) -> Result<Vec<u64>, Fail> {
     Ok(times)
 }
 
-/// The same of two beacons that are joined by queues of so many slots.
+/// The same of two beacons that are joined by a link whose queues have so many slots.
 fn logged_by_pair<R: Threads + Wait + Sync>(
     rt: &R,
     alloc: Global,
     slots: u32,
+    via: Via,
     workers: u32,
 ) -> Result<Vec<u64>, Fail>
     requires workers { (1 ≤ workers) × (workers ≤ 64) }
 {
-    let wiring = pair(alloc, slots)?;
+    let wiring = pair(alloc, slots, via)?;
     let a = beacon(alloc, 2)?;
     let b = beacon(alloc, 1)?;
     let mut devices = Vec::new(alloc);
     devices.push(a)?;
     devices.push(b)?;
-    logged(rt, alloc, devices, &wiring, workers)
+    let mut dialer = PipeDialer::new(alloc, Queue::new(alloc), Items::new(alloc));
+    logged(rt, alloc, devices, &wiring, workers, &mut dialer)
 }
 
 /// That threads may be handed a value of this type.
@@ -136,8 +139,8 @@ fn is_sent<T: Send>() {}
 
 #[test]
 fn each_channel_has_a_queue(rt: HostRuntime) -> Result<(), Fail> {
-    let wiring = pair(rt.alloc(), 2)?;
-    let made = Queues::build(rt.alloc(), &wiring)?;
+    let wiring = pair(rt.alloc(), 2, Via::Queue)?;
+    let made = Queues::build_whole(rt.alloc(), &wiring)?;
     assert_eq!(rt; made.queues.len(), 2);
     assert_eq!(rt; made.producers.len(), 2);
     assert_eq!(rt; made.consumers.len(), 2);
@@ -154,9 +157,19 @@ fn two_beacons_run_to_their_end_on_any_workers(rt: HostRuntime) -> Result<(), Fa
     let times = [1000, 1500, 2000, 1000, 1500, 2500];
     for workers in [1, 2, 3] {
         for slots in [1, 2] {
-            let logged = logged_by_pair(&rt, rt.alloc(), slots, workers)?;
+            let logged = logged_by_pair(&rt, rt.alloc(), slots, Via::Queue, workers)?;
             assert_eq!(rt; logged.as_slice(), times.as_slice(), "{workers} workers");
         }
+    }
+    Ok(())
+}
+
+#[test]
+fn two_beacons_run_by_proxy_to_the_same_end(rt: HostRuntime) -> Result<(), Fail> {
+    let times = [1000, 1500, 2000, 1000, 1500, 2500];
+    for workers in [1, 2, 3] {
+        let logged = logged_by_pair(&rt, rt.alloc(), 2, Via::Proxy, workers)?;
+        assert_eq!(rt; logged.as_slice(), times.as_slice(), "{workers} workers");
     }
     Ok(())
 }

@@ -1,47 +1,60 @@
-use Rattle.std.proofs.Common.{sym, subst, rules, IfOk, IfErr, length}
+use Rattle.std.proofs.Common.{◌≡◌, rules, refl, sym, ◌∙◌, subst}
+use Rattle.std.specs.Vec.{with_items}
 use Rattle.std.proofs.lemmas.List.{with_items_is, places}
-use Rattle.worker_rounds.specs.Crew.{AreSound, AllWorked, IsFirstKept}
-use Rattle.run_threads.specs.Parts.{PartFits, PartDid, PartFailed}
-use Rattle.run_threads.specs.Faults.{LeavesIntroductions, TellsCause}
-use Rattle.run_threads.specs.Laws.{HaveEnded, StaysCrew}
-use Rattle.run_threads.specs.Seating.{StaysSeated}
-use Rattle.run_threads.proofs.Crews.{if_ok, if_err}
-use Rattle.run_threads.proofs.Staying.{stays_seated}
+use Rattle.proxy_members.specs.Differing.{AreInOrder}
+use Rattle.run_threads.specs.Comparing.{EndsAgree}
+use Rattle.run_threads.proofs.WholeRun.{Rounds, dismiss_fits, left_in_order, has_failed, has_ended, crew_kept}
 use Rattle.run_threads.proofs.crew.run_mesh.Goals as goal
 
-pub returns-clause-crew : goal.returns-clause-crew
-returns-clause-crew g c =
+pub dismiss-requires : goal.dismiss-requires
+dismiss-requires g c =
     let b = g.V.Device.behaviour in
     let settled = g.V.Device.settled in
-    let items = with_items_is c.args.crew.now.workers c.run_all.new.workers (search (rules, places)) in
-    let worked : AllWorked (PartDid b settled) PartFailed (PartFits b settled) c.args.crew.now.workers.items c.run_all.new.workers = subst (λ ws. AllWorked (PartDid b settled) PartFailed (PartFits b settled) ws c.run_all.new.workers) c.as_mut_slice.ensures.value c.run_all.ensures.worked in
-    if_ok c.run_all.result (AreSound (PartFits b settled) c.run_all.new.workers) _ (λ sound. subst (StaysCrew b settled c.args.crew.now.workers.items) (sym items) (c.rounds_keep_a_crew_standing.ensures c.args.crew.now.workers.items c.run_all.new.workers worked sound)) c.run_all.ensures.sound
+    let out = g.O.WireOut.seen in
+    let wire = g.I.WireIn.seen in
+    let old = c.args.crew.now in
+    let mid = c.run_all-ran.new.workers in
+    let some = c.requires.built in
+    let worked : Rounds b settled out wire old.workers.items mid = subst (λ ws. Rounds b settled out wire ws mid) c.as_mut_slice.ensures.value c.run_all-ran.ensures.worked in
+    let items = with_items_is old.workers mid (search (rules, places)) in
+    record { engaged = dismiss_fits b settled out wire c.ends_stay_engaged.ensures.components c.ends_stay_engaged.ensures.rounds c.rounds_of_components.ensures.fared c.whatever_comes_leaves_parts_seated.ensures c.a_crew_is_seated.ensures some.starts some.kinds some.links some.end some.queues old some.built mid worked c.as_mut_slice-2.result.now (c.as_mut_slice-2.ensures.value ∙ items) }
 
-pub returns-clause-ended : goal.returns-clause-ended
-returns-clause-ended g c =
-    let items = with_items_is c.args.crew.now.workers c.run_all.new.workers (search (rules, places)) in
-    subst (λ ws. IfOk c.run_all.result (λ _. HaveEnded g.V.Device.behaviour ws)) (sym items) c.run_all.ensures.ended
-
-pub returns-clause-seated : goal.returns-clause-seated
-returns-clause-seated g c =
+pub agree-requires : goal.agree-requires
+agree-requires g c =
     let b = g.V.Device.behaviour in
     let settled = g.V.Device.settled in
-    let items = with_items_is c.args.crew.now.workers c.run_all.new.workers (search (rules, places)) in
-    let worked : AllWorked (PartDid b settled) PartFailed (PartFits b settled) c.args.crew.now.workers.items c.run_all.new.workers = subst (λ ws. AllWorked (PartDid b settled) PartFailed (PartFits b settled) ws c.run_all.new.workers) c.as_mut_slice.ensures.value c.run_all.ensures.worked in
-    subst (StaysSeated c.args.crew.now.workers.items) (sym items) (stays_seated b settled c.args.crew.now.workers.items c.run_all.new.workers worked)
+    let out = g.O.WireOut.seen in
+    let wire = g.I.WireIn.seen in
+    let old = c.args.crew.now in
+    let mid = c.run_all-ran.new.workers in
+    let some = c.requires.built in
+    let worked : Rounds b settled out wire old.workers.items mid = subst (λ ws. Rounds b settled out wire ws mid) c.as_mut_slice.ensures.value c.run_all-ran.ensures.worked in
+    let items = with_items_is old.workers mid (search (rules, places)) in
+    subst AreInOrder (sym c.as_slice.ensures.value) (left_in_order b settled out wire c.ends_stay_engaged.ensures.components c.ends_stay_engaged.ensures.rounds c.rounds_of_components.ensures.fared c.whatever_comes_leaves_parts_seated.ensures c.a_crew_is_seated.ensures some.starts some.kinds some.links some.end some.queues old some.built mid worked c.as_mut_slice-2.result.now (c.as_mut_slice-2.ensures.value ∙ items) c.dismiss.new.workers c.dismiss.new.left c.dismiss.ensures.dismissed)
 
-pub returns-clause-introduced : goal.returns-clause-introduced
-returns-clause-introduced g c =
+pub returns-in-Ok : goal.returns-in-Ok
+returns-in-Ok g c starts kinds links end queues is =
     let b = g.V.Device.behaviour in
     let settled = g.V.Device.settled in
-    let items = with_items_is c.args.crew.now.workers c.run_all.new.workers (search (rules, places)) in
-    let worked : AllWorked (PartDid b settled) PartFailed (PartFits b settled) c.args.crew.now.workers.items c.run_all.new.workers = subst (λ ws. AllWorked (PartDid b settled) PartFailed (PartFits b settled) ws c.run_all.new.workers) c.as_mut_slice.ensures.value c.run_all.ensures.worked in
-    subst (LeavesIntroductions b settled c.args.crew.now.workers.items) (sym items) (c.rounds_send_introductions_first.ensures c.args.crew.now.workers.items c.run_all.new.workers worked)
+    let out = g.O.WireOut.seen in
+    let wire = g.I.WireIn.seen in
+    let old = c.args.crew.now in
+    let mid = c.run_all-ran.new.workers in
+    let worked : Rounds b settled out wire old.workers.items mid = subst (λ ws. Rounds b settled out wire ws mid) c.as_mut_slice.ensures.value c.run_all-ran.ensures.worked in
+    let items = with_items_is old.workers mid (search (rules, places)) in
+    let after = with_items_is (with_items old.workers mid) c.dismiss.new.workers (search (rules, places)) in
+    let crew = crew_kept b settled out wire c.ends_stay_engaged.ensures.components c.ends_stay_engaged.ensures.rounds c.rounds_of_components.ensures.fared c.whatever_comes_leaves_parts_seated.ensures c.a_crew_is_seated.ensures starts kinds links end queues old is mid worked c.rounds_keep_a_crew_standing.ensures c.rounds_of_components.ensures.worked c.rounds_of_components.ensures.sound c.in-Ok.ensures.sound in
+    has_ended b settled out wire c.ends_stay_engaged.ensures.components c.ends_stay_engaged.ensures.rounds c.rounds_of_components.ensures.fared c.whatever_comes_leaves_parts_seated.ensures c.a_crew_is_seated.ensures starts kinds links end queues old is mid worked c.as_mut_slice-2.result.now (c.as_mut_slice-2.ensures.value ∙ items) c.dismiss.new.workers c.dismiss.new.left c.dismiss.ensures.dismissed _ after refl refl c.in-Ok.ensures.sound crew (c.rounds_of_components.ensures.ended_too mid c.in-Ok.ensures.ended) c.agree.result (subst (λ l. EndsAgree l c.agree.result) c.as_slice.ensures.value c.agree.ensures)
 
-pub returns-clause-cause : goal.returns-clause-cause
-returns-clause-cause g c =
+pub returns-in-Err : goal.returns-in-Err
+returns-in-Err g c starts kinds links end queues is =
     let b = g.V.Device.behaviour in
     let settled = g.V.Device.settled in
-    let items = with_items_is c.args.crew.now.workers c.run_all.new.workers (search (rules, places)) in
-    let worked : AllWorked (PartDid b settled) PartFailed (PartFits b settled) c.args.crew.now.workers.items c.run_all.new.workers = subst (λ ws. AllWorked (PartDid b settled) PartFailed (PartFits b settled) ws c.run_all.new.workers) c.as_mut_slice.ensures.value c.run_all.ensures.worked in
-    subst (λ ws. IfErr c.run_all.result (TellsCause b settled c.args.crew.now.workers.items ws)) (sym items) (if_err c.run_all.result (IsFirstKept c.run_all.new.workers (length c.run_all.new.workers)) (TellsCause b settled c.args.crew.now.workers.items c.run_all.new.workers) (λ fault first. c.a_fault_has_its_cause.ensures c.args.crew.now.workers.items c.run_all.new.workers worked fault first) c.run_all.ensures.fault)
+    let out = g.O.WireOut.seen in
+    let wire = g.I.WireIn.seen in
+    let old = c.args.crew.now in
+    let mid = c.run_all-ran.new.workers in
+    let worked : Rounds b settled out wire old.workers.items mid = subst (λ ws. Rounds b settled out wire ws mid) c.as_mut_slice.ensures.value c.run_all-ran.ensures.worked in
+    let items = with_items_is old.workers mid (search (rules, places)) in
+    let after = with_items_is (with_items old.workers mid) c.dismiss.new.workers (search (rules, places)) in
+    has_failed b settled out wire c.ends_stay_engaged.ensures.components c.ends_stay_engaged.ensures.rounds c.rounds_of_components.ensures.fared c.whatever_comes_leaves_parts_seated.ensures c.a_crew_is_seated.ensures starts kinds links end queues old is mid worked c.as_mut_slice-2.result.now (c.as_mut_slice-2.ensures.value ∙ items) c.dismiss.new.workers c.dismiss.new.left c.dismiss.ensures.dismissed _ after refl refl c.in-Err.fault c.in-Err.ensures.fault

@@ -1,34 +1,18 @@
-use Rattle.std.proofs.Common.{◌≡◌, length, sym, ap, ◌∙◌, subst}
-use Rattle.std.proofs.lemmas.List.{length-map}
-use Rattle.run_threads.specs.Building.{IsNewCrew}
-use Rattle.run_threads.specs.Closing.{HasRoomFor}
-use Rattle.run_threads.specs.CrewOf.{IsCrewOf}
-use Rattle.run_threads.specs.Proxied.{near_queues, far_queues, far_names}
-use Rattle.run_threads.specs.Queues.{names_of}
-use Rattle.run_threads.proofs.Doubled.{whole_by_queues}
-use Rattle.run_threads.proofs.SharedOut.{all_near, all_far}
+use Rattle.std.proofs.Common.{◌≡◌, length, map, refl, sym, ap, ◌∙◌, subst, ◌≤◌, arith}
+use Rattle.std.proofs.lemmas.Result.{err_from_is_err_and, IfOk-weaker}
+use Rattle.proxy_crew.specs.Dialing.{DialTells, channel_of}
+use Rattle.run_threads.specs.Proxied.{proxied}
+use Rattle.run_threads.proofs.Routed.{numbers_are}
+use Rattle.run_threads.proofs.WholeBuilt.{none_dialed}
 use Rattle.run_threads.proofs.crew.Crew.build.Goals as goal
 
-pub staff-requires-clause-new : goal.staff-requires-clause-new
-staff-requires-clause-new g c = whole_by_queues c.args.wiring.now.kinds c.args.wiring.now.links c.args.queues.now c.args.producers.items c.args.consumers.items c.requires.by_queues c.requires.new
+pub returns-in_err-ready-clause-told : goal.returns-in_err-ready-clause-told
+returns-in_err-ready-clause-told g c =
+    let p = err_from_is_err_and c.from_residual.result c.from_residual.ensures.1 in
+    rw (p.1, p.2) (none_dialed (proxied c.args.wiring.now.links) (g.D.Dialer.seen c.args.dial.now) (g.D.Dialer.seen c.args.dial.now) refl)
 
-pub returns-clause-crew : goal.returns-clause-crew
-returns-clause-crew g c =
-    let links = c.args.wiring.now.links in
-    let queues = c.args.queues.now in
-    let are = (whole_by_queues c.args.wiring.now.kinds links queues c.args.producers.items c.args.consumers.items c.requires.by_queues c.requires.new).queues_are in
-    let near : near_queues links queues ≡ queues = all_near c.args.wiring.now.kinds queues links c.requires.by_queues are in
-    let far : far_queues links queues ≡ queues = all_far c.args.wiring.now.kinds queues links c.requires.by_queues are in
-    subst (λ l. IsCrewOf g.V.Device.behaviour g.V.Device.settled c.args.devices.items links c.args.wiring.now.end (names_of queues) (names_of l) c.in_ok-workers.field-0.workers.items) far (subst (λ l. IsCrewOf g.V.Device.behaviour g.V.Device.settled c.args.devices.items links c.args.wiring.now.end (names_of l) (far_names links queues) c.in_ok-workers.field-0.workers.items) near c.in_ok-workers.ensures.crew)
+pub returns-clause-built : goal.returns-clause-built
+returns-clause-built g c = IfOk-weaker c.dial.result _ _ (λ crew builds. builds c.args.devices.items c.args.wiring.now.kinds c.args.wiring.now.links c.args.wiring.now.end c.args.queues.now c.in_ok-ready.ensures.ready) c.dial.ensures.built
 
-pub returns-clause-fresh : goal.returns-clause-fresh
-returns-clause-fresh g c =
-    let links = c.args.wiring.now.links in
-    let queues = c.args.queues.now in
-    let are = (whole_by_queues c.args.wiring.now.kinds links queues c.args.producers.items c.args.consumers.items c.requires.by_queues c.requires.new).queues_are in
-    let near : near_queues links queues ≡ queues = all_near c.args.wiring.now.kinds queues links c.requires.by_queues are in
-    let far : far_queues links queues ≡ queues = all_far c.args.wiring.now.kinds queues links c.requires.by_queues are in
-    subst (λ l. IsNewCrew g.V.Device.behaviour c.args.devices.items links c.args.wiring.now.end queues l c.in_ok-workers.field-0.workers.items) far (subst (λ l. IsNewCrew g.V.Device.behaviour c.args.devices.items links c.args.wiring.now.end l (far_queues links queues) c.in_ok-workers.field-0.workers.items) near c.in_ok-workers.ensures.fresh)
-
-pub returns-clause-room : goal.returns-clause-room
-returns-clause-room g c = subst (λ n. HasRoomFor n c.args.wiring.now.links c.in_ok-closing.closing) (ap length (sym c.requires.matches) ∙ length-map c.args.devices.items g.V.Device.behaviour.ports) c.in_ok-closing.ensures
+pub returns-clause-told : goal.returns-clause-told
+returns-clause-told g c = subst (λ l. DialTells c.dial.result l (g.D.Dialer.seen c.args.dial.now) (g.D.Dialer.seen c.dial.new.dial)) (ap (map channel_of) c.in_ok-ready.ensures.ready.routes_are ∙ numbers_are c.args.wiring.now.kinds c.args.wiring.now.links) c.dial.ensures.told
