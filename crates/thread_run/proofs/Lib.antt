@@ -1,4 +1,7 @@
 mod Closings
 mod Reserving
-mod Delivering
+mod Ports
+mod Telling
+mod Blaming
 mod Spending
+pub mod Faultless

@@ -1,3 +1,3 @@
 pub mod Closing
-pub mod Rests
 pub mod Spent
+pub mod Whole

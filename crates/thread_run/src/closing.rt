@@ -1,11 +1,12 @@
 //! The closing of all queues of a run.
-ghost use Rattle.std.specs.Prelude.{map, IfOk};
+ghost use Rattle.std.specs.Prelude.{◌∷◌, [], map, IfOk, OnOk};
 ghost use Rattle.slot_queue.specs.Ends.{Named};
-ghost use Rattle.thread_run.specs.Closing.{slots_of, HasRooms, AreSidesOf, AreClosed};
+ghost use Rattle.thread_run.specs.Closing.{slots_of, each_queue, HasMoreRooms, HasRooms, AreSidesOf, AreClosed};
 
 use cs_base::items::Items;
 use cs_base::link::Link;
 use cs_base::no_memory::NoMemory;
+use cs_base::port_kind::Via;
 use slot_queue::{Consumer, Producer, Rest, SlotQueue};
 use std::alloc::Global;
 
@@ -18,17 +19,34 @@ pub struct Rooms {
     pub(crate) rests: Vec<Rest>,
 }
 
+/// Room for one queue more.
+fn add_room(alloc: Global, slots: u32, rooms: &mut Items<Rest>) -> Result<(), NoMemory>
+    ensures { OnOk result (HasMoreRooms (slots ∷ []) rooms.old rooms.new) }
+{
+    let room = Rest::reserve(alloc, slots)?;
+    rooms.push(room)
+}
+
+/// Room for the queues of one channel more: one, or two where it goes by proxy.
+fn add_rooms(alloc: Global, via: Via, slots: u32, rooms: &mut Items<Rest>) -> Result<(), NoMemory>
+    ensures { OnOk result (HasMoreRooms (each_queue via slots) rooms.old rooms.new) }
+{
+    add_room(alloc, slots, rooms)?;
+    match via {
+        Via::Queue => Ok(()),
+        Via::Proxy => add_room(alloc, slots, rooms),
+    }
+}
+
 impl Rooms {
-    /// Room for the two queues of each of these links.
+    /// Room for the queues of the two channels of each of these links.
     pub fn reserve(alloc: Global, links: &[Link]) -> Result<Rooms, NoMemory>
         ensures { IfOk result (HasRooms (slots_of links.now)) }
     {
         let mut rooms = Items::new(alloc);
         for link in links {
-            let there = Rest::reserve(alloc, link.slots)?;
-            rooms.push(there)?;
-            let back = Rest::reserve(alloc, link.slots)?;
-            rooms.push(back)?;
+            add_rooms(alloc, link.via, link.slots, &mut rooms)?;
+            add_rooms(alloc, link.via, link.slots, &mut rooms)?;
         }
         let rests = Vec::with_capacity(alloc, rooms.len())?;
         Ok(Rooms { rooms, rests })

@@ -2,7 +2,7 @@
 #![tactic(auto)]
 
 pub mod closing;
-pub mod run;
+pub mod whole;
 
 pub use closing::{Rooms, close_all};
-pub use run::{Ran, run_on_workers};
+pub use whole::{WholeRun, run_whole};

@@ -7,7 +7,7 @@ pub loop-link-init : goal.loop-link-init
 loop-link-init c = reserved_starts c.args.links.now _ c.new-rooms.ensures
 
 pub loop-link-preserved : goal.loop-link-preserved
-loop-link-preserved c = reserved_more c.args.links.now c.loop-link.link-index c.loop-link.rooms _ _ c.link-item.result c.in_ok-there.there c.in_ok-back.back c.loop-link-test.true c.link-item.is c.loop-link.invariant (c.in_ok-there.ensures.messages, c.in_ok-there.ensures.room) (c.in_ok-back.ensures.messages, c.in_ok-back.ensures.room) c.in_ok-push.ensures.ok c.in_ok-push-2.ensures.ok
+loop-link-preserved c = reserved_more c.args.links.now c.loop-link.link-index c.loop-link.rooms _ _ c.link-item.result c.loop-link-test.true c.link-item.is c.loop-link.invariant c.in_ok-add_rooms.ensures c.in_ok-add_rooms-2.ensures
 
 pub returns : goal.returns
 returns c =
