@@ -9,6 +9,7 @@ use Rattle.topology_file.specs.Refusals.{refusal}
 use Rattle.topology_file.proofs.OneTopology.{one_topology}
 use Rattle.device_set.specs.Images.{image_names}
 use Rattle.device_set.specs.Starts.{too_long}
+use Rattle.cosim_cmd.specs.declared.breaks.Break.TheVariants as broken
 use Rattle.cosim_cmd.specs.declared.refusal.OutputBad.{OutputBad}
 use Rattle.cosim_cmd.specs.declared.refusal.OutputBad.TheVariants as bad
 use Rattle.cosim_cmd.specs.declared.refusal.Refusal.{Refusal}
@@ -158,7 +159,7 @@ module _ (before after : FilesSeen) (s : Sentence) (inputs : Inputs) (names : Li
   made bad.NoMemory why stays = refl
   made (bad.File line) why stays = absurd (stays why.failed)
   made (bad.Topology line) why stays = absurd (has_topology s inputs line accepted (of_text (λ bytes. LacksTopology s bytes line) why))
-  made (bad.NotBuilt line) why stays = absurd why
+  made (bad.Broken cause line) why stays = absurd why
   made (bad.Image line) why stays =
       let text : why.bytes ≡ inputs.text = told_alone (before.held (file_of s)) why.bytes inputs.text why.read.told.0 told in
       let are : AreImages inputs.text why.names = subst (λ (bytes : List ℕ). AreImages bytes why.names) text why.are_images in
@@ -191,7 +192,9 @@ is_out refused.Out status = refl
 is_out (refused.NoOutput bad.NoMemory) status = absurd (omega (arith, status))
 is_out (refused.NoOutput (bad.File line)) status = absurd (omega (arith, status))
 is_out (refused.NoOutput (bad.Topology line)) status = absurd (omega (arith, status))
-is_out (refused.NoOutput (bad.NotBuilt line)) status = absurd (omega (arith, status))
+is_out (refused.NoOutput (bad.Broken (broken.Lost channel) line)) status = absurd (omega (arith, status))
+is_out (refused.NoOutput (bad.Broken (broken.Peer channel offset reason) line)) status = absurd (omega (arith, status))
+is_out (refused.NoOutput (bad.Broken (broken.Differs channel offset) line)) status = absurd (omega (arith, status))
 is_out (refused.NoOutput (bad.Image line)) status = absurd (omega (arith, status))
 is_out (refused.NoOutput (bad.Schedule line)) status = absurd (omega (arith, status))
 is_out (refused.NoOutput (bad.Asm line)) status = absurd (omega (arith, status))

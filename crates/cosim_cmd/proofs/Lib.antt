@@ -7,9 +7,9 @@ pub mod Requests
 pub mod PairWords
 pub mod LogTimes
 pub mod MeshLogs
-pub mod ByQueues
 pub mod Reading
 pub mod ReplayReading
+pub mod Breaking
 pub mod RunReading
 pub mod TooLong
 pub mod Accepting

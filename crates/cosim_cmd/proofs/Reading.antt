@@ -19,9 +19,9 @@ use Rattle.cosim_cmd.specs.Said.{said}
 use Rattle.cosim_cmd.specs.Check.{IsChecked}
 use Rattle.cosim_cmd.specs.Asm.{IsAssembled}
 use Rattle.cosim_cmd.specs.Sentence.{Text, Sentence, Check, Model, Serial, Replay, Asm, file_of}
-use Rattle.cosim_cmd.specs.Inputs.{Inputs, AreFurther, AreImages, AreImagesAnd, AsksNothing, AsksFor, AsksAtMost, AsksBeginning, AsksIfAny, IsReadAs, IsUnreadAs, AreTold, AreRead, OfRead, IsOneUnread, AsksAtMostInOrder, last_of}
+use Rattle.cosim_cmd.specs.Inputs.{Inputs, AreFurther, AreImages, AsksNothing, AsksFor, AsksAtMost, AsksBeginning, AsksIfAny, IsReadAs, IsUnreadAs, AreTold, AreRead, OfRead, IsOneUnread, AsksAtMostInOrder, last_of}
 use Rattle.cosim_cmd.specs.Model.{IsModelled, IsLogged, IsTooLong, IsModelBad}
-use Rattle.cosim_cmd.specs.Replay.{IsReplay, IsReplayBad}
+use Rattle.cosim_cmd.specs.Replay.{IsReplayBad}
 use Rattle.cosim_cmd.specs.Outputs.{IsOutput, LacksTopology, LacksHostRoom, LacksStep, LacksProgram}
 use Rattle.cosim_cmd.specs.Local.{OfRest, OfPrograms, OfInputs, OfFile, OfSystem, Lacks, AsksFurther, IsOutputBad}
 
@@ -145,7 +145,7 @@ module _ (s : Sentence) (before mid after : FilesSeen) (bytes : List ℕ) (kept 
         named = one.named ∙ ap file_line (sym (last_of-push (file_of s) one.earlier one.name));
       }
   lacks (bad.Topology line) lacking = of_file (λ bytes. LacksTopology s bytes line) lacking.0 lacking.1
-  lacks (bad.NotBuilt line) lacking = absurd lacking
+  lacks (bad.Broken cause line) lacking = absurd lacking
   lacks (bad.Image line) lacking = of_system (λ bytes images. LacksHostRoom s bytes images line) lacking
   lacks (bad.Schedule line) lacking = of_inputs (λ inputs. LacksStep s inputs line) lacking
   lacks (bad.Asm line) lacking = of_file (λ bytes. LacksProgram s bytes line) lacking.0 lacking.1
@@ -187,7 +187,7 @@ module _ (file : Text) (stats : Bool) (bytes : List ℕ) (before after : FilesSe
   model_lacks bad.NoMemory why = tt
   model_lacks (bad.File line) why = why
   model_lacks (bad.Topology line) why = why
-  model_lacks (bad.NotBuilt line) why = absurd why
+  model_lacks (bad.Broken cause line) why = absurd why
   model_lacks (bad.Image line) why = why
   model_lacks (bad.Schedule line) why = absurd why
   model_lacks (bad.Asm line) why = absurd why
@@ -196,7 +196,7 @@ module _ (file : Text) (stats : Bool) (bytes : List ℕ) (before after : FilesSe
   serial_lacks bad.NoMemory why = tt
   serial_lacks (bad.File line) why = why
   serial_lacks (bad.Topology line) why = why
-  serial_lacks (bad.NotBuilt line) why = absurd why
+  serial_lacks (bad.Broken cause line) why = absurd why
   serial_lacks (bad.Image line) why = why
   serial_lacks (bad.Schedule line) why = absurd why
   serial_lacks (bad.Asm line) why = absurd why
@@ -206,7 +206,7 @@ module _ (file schedule : Text) (bytes : List ℕ) (before after : FilesSeen) wh
   replay_lacks bad.NoMemory why = tt
   replay_lacks (bad.File line) why = why
   replay_lacks (bad.Topology line) why = why
-  replay_lacks (bad.NotBuilt line) why = absurd why
+  replay_lacks (bad.Broken cause line) why = absurd why
   replay_lacks (bad.Image line) why = why
   replay_lacks (bad.Schedule line) why = why
   replay_lacks (bad.Asm line) why = absurd why

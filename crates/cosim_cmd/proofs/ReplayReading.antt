@@ -11,7 +11,7 @@ use Rattle.cosim_cmd.specs.declared.refusal.Fault.TheVariants as fault
 use Rattle.cosim_cmd.specs.declared.refusal.OutputBad.{OutputBad}
 use Rattle.cosim_cmd.specs.declared.refusal.OutputBad.TheVariants as bad
 use Rattle.cosim_cmd.specs.Sentence.{Text}
-use Rattle.cosim_cmd.specs.Inputs.{AreImagesAnd, AsksNothing, AsksFor, AsksAtMost, AsksBeginning, AsksIfAny, IsBeginning, IsReadAs, IsUnreadAs, AreRead, OfOneRead, OfRead, IsOneUnread}
+use Rattle.cosim_cmd.specs.Inputs.{AreImagesAnd, AsksAtMost, AsksBeginning, AsksIfAny, IsBeginning, IsReadAs, IsUnreadAs, AreRead, OfOneRead, OfRead, IsOneUnread}
 use Rattle.cosim_cmd.specs.Model.{IsTooLong}
 use Rattle.cosim_cmd.specs.Refusals.{IsFault, unread_of, too_long_of, unplayed_of}
 use Rattle.cosim_cmd.specs.Replay.{IsStepped, IsUnplayed, Replays, IsFaulty, WithSchedule, IsReplay, IsScheduleBad, IsSystemBad, IsReplayBad, AreForReplay}
@@ -98,7 +98,7 @@ module _ (t : Topology) (name : Text) (before mid : FilesSeen) where
         unread = unread_next before mid after hosts all name [] (sym (append-nil all)) read.asked no_fault (fault.Line line) why;
       }
       both_bad (bad.Topology line) why = absurd why
-      both_bad (bad.NotBuilt line) why = absurd why
+      both_bad (bad.Broken cause line) why = absurd why
       both_bad (bad.Image line) why = absurd why
       both_bad (bad.Schedule line) why = both_read (λ images schedule. IsFaulty t images schedule line) (record {
         bytes = why.bytes;
@@ -133,7 +133,7 @@ module _ (bytes : List ℕ) (t : Topology) (spelled : IsTopologyText bytes t) (n
   text_bad bad.NoMemory why = tt
   text_bad (bad.File line) why = record { names = why.names; are_names = are_further why.names why.are_names; unread = why.unread }
   text_bad (bad.Topology line) why = absurd why
-  text_bad (bad.NotBuilt line) why = absurd why
+  text_bad (bad.Broken cause line) why = absurd why
   text_bad (bad.Image line) why = record {
     names = why.names;
     are_names = record { topology = t; spelled = spelled; are_images = why.are_names };

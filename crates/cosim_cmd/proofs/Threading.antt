@@ -1,15 +1,13 @@
 -- What `run` reads, and what it is refused for.
-use Rattle.std.proofs.Common.{ℕ, ◌≡◌, ◌↔◌, Bool, List, [], ◌∷◌, Option, Some, None, refl, sym, ap, ap₂, ◌∙◌, subst, drop, arith}
-use Rattle.std.specs.List.{AllZip}
+use Rattle.std.proofs.Common.{ℕ, ◌≡◌, ◌≤◌, ◌↔◌, Bool, List, ◌∷◌, Some, refl, sym, ap, ap₂, ◌∙◌, subst, drop, inl, inr, arith}
 use Rattle.std.proofs.lemmas.Option.{same_Some}
 use Rattle.cs_base.specs.Outside.{FilesSeen}
 use Rattle.slot_queue.specs.Closing.{Remains}
-use Rattle.thread_run.specs.Rests.{AreTranscripts}
+use Rattle.thread_run.specs.Whole.{AreWhole}
 use Rattle.topology_file.specs.declared.topology.Topology.{Topology}
-use Rattle.topology_file.specs.Reading.{IsTopologyText}
 use Rattle.device_set.specs.declared.any_device.AnyDevice.{AnyDevice}
 use Rattle.device_set.specs.AnyKind.{any_device}
-use Rattle.device_set.specs.Starts.{starts_of}
+use Rattle.cosim_cmd.specs.declared.breaks.Break.TheVariants as broken
 use Rattle.cosim_cmd.specs.declared.refusal.Fault.{Fault}
 use Rattle.cosim_cmd.specs.declared.refusal.Fault.TheVariants as fault
 use Rattle.cosim_cmd.specs.declared.refusal.OutputBad.{OutputBad}
@@ -19,88 +17,64 @@ use Rattle.cosim_cmd.specs.declared.refusal.Refusal.TheVariants as refused
 use Rattle.cosim_cmd.specs.Refusals.{IsFault, status_of, output_status, unread_of}
 use Rattle.cosim_cmd.specs.Sentence.{Text, Sentence, Serial, file_of}
 use Rattle.cosim_cmd.specs.RunWords.{Run, SaysRun, SaysNoRun, workers_and_rest, file_and_stats}
-use Rattle.cosim_cmd.specs.Inputs.{Inputs, AreImages, IsReadAs, IsUnreadAs, OfRead}
-use Rattle.cosim_cmd.specs.NoTopology.{IsNoTopology}
-use Rattle.cosim_cmd.specs.Model.{run_text, AreReady}
-use Rattle.cosim_cmd.specs.Proxied.{first_proxied, IsNotBuilt}
-use Rattle.cosim_cmd.specs.Replay.{AreOfHosts}
-use Rattle.cosim_cmd.specs.Outputs.{Accepts}
-use Rattle.cosim_cmd.specs.Local.{IsOutputBad, Stays}
-use Rattle.cosim_cmd.specs.Threads.{as_serial, IsThreaded, IsRunOf, LacksRoomOnQueues, IsTextBad, IsRunBad, IsRunRefusal, CanRun, CanRunWords}
-use Rattle.cosim_cmd.proofs.Accepting.{made, of_text}
-use Rattle.cosim_cmd.proofs.Reading.{lacks, of_file, of_system, unread_file}
-use Rattle.topology_file.proofs.OneTopology.{one_topology}
+use Rattle.cosim_cmd.specs.Inputs.{IsReadAs, IsUnreadAs}
+use Rattle.cosim_cmd.specs.Model.{OfTopology, run_text, AreReady}
+use Rattle.cosim_cmd.specs.Broken.{Wires, AreDialedFor, HasCarried, AllHold}
+use Rattle.cosim_cmd.specs.Local.{Lacks, CanTake, IsOutputBad, Stays}
+use Rattle.cosim_cmd.specs.Threads.{as_serial, IsThreaded, DialsForText, DialsInOrder, Breaks, IsTextBad, IsRunBad, IsRunRefusal, IsEarlyRefusal, IsEarly, CanRunWords}
+use Rattle.cosim_cmd.proofs.Accepting.{made}
+use Rattle.cosim_cmd.proofs.Breaking.{none_breaks}
+use Rattle.cosim_cmd.proofs.Reading.{lacks, of_system, unread_file}
 
 -- devices that are ready are those of the topology at their start
-pub ready_threaded : (stats : Bool) (t : Topology) (images : List (List ℕ)) (devices : List AnyDevice) → AreReady t images devices → (text : List ℕ) (rests : List Remains) → text ≡ run_text stats t devices → AreTranscripts any_device devices t.wiring.links t.wiring.end rests → IsThreaded stats t images text rests
-ready_threaded stats t images devices ready text rests text_is rests_are = record {
+pub ready_threaded : {O I : Type 0} (w : Wires O I) (stats : Bool) (t : Topology) (images : List (List ℕ)) (devices : List AnyDevice) → AreReady t images devices → (text : List ℕ) (rests : List Remains) → text ≡ run_text stats t devices → AreWhole any_device devices t.wiring.links t.wiring.end rests → HasCarried w t rests → IsThreaded w stats t images text rests
+ready_threaded w stats t images devices ready text rests text_is rests_are carried = record {
   logged = record { fit = ready.fit; joined = text_is ∙ ap (run_text stats t) ready.started.starts };
-  rests_are = subst (λ (starts : List AnyDevice). AreTranscripts any_device starts t.wiring.links t.wiring.end rests) ready.started.starts rests_are;
+  rests_are = subst (λ (starts : List AnyDevice). AreWhole any_device starts t.wiring.links t.wiring.end rests) ready.started.starts rests_are;
+  carried = carried;
 }
-
-module _ (bytes : List ℕ) (t : Topology) (spelled : IsTopologyText bytes t) (by_queues : first_proxied t ≡ None) (before after : FilesSeen) where
-  pub run_made : (stats : Bool) (text : List ℕ) (rests : List Remains) → OfRead (AreOfHosts t) before after (λ images. IsThreaded stats t images text rests) → OfRead (AreImages bytes) before after (λ images. IsRunOf stats bytes images text rests)
-  run_made stats text rests of = record {
-    names = of.names;
-    are_names = record { topology = t; spelled = spelled; are_images = of.are_names };
-    contents = of.contents;
-    read = of.read;
-    fact = record { topology = t; spelled = spelled; fact = record { by_queues = by_queues; threaded = of.fact } };
-  }
 
 -- ---- why it is refused
 
 -- what a text is refused for, its command is
-module _ (file : Text) (stats : Bool) (before mid after : FilesSeen) (bytes : List ℕ) (kept : mid.held ≡ before.held) (no_fault : mid.faults ≡ before.faults) (read : IsReadAs file before mid bytes) where
+module _ {O I : Type 0} (w : Wires O I) (file : Text) (stats : Bool) (before mid after : FilesSeen) (bytes : List ℕ) (kept : mid.held ≡ before.held) (no_fault : mid.faults ≡ before.faults) (read : IsReadAs file before mid bytes) where
   abbrev s : Sentence
   s = Serial file stats
 
-  pub run_lacks : (bad : OutputBad) → IsTextBad bytes mid after bad → IsRunBad s before after bad
+  as_text : (bad : OutputBad) → Lacks (record { sentence = s; bytes = bytes }) mid after bad → IsOutputBad s before after bad
+  as_text = lacks s before mid after bytes kept no_fault read
+
+  pub run_lacks : (bad : OutputBad) → IsTextBad w bytes mid after bad → IsRunBad w s before after bad
   run_lacks bad.NoMemory why = tt
-  run_lacks (bad.File line) why = lacks s before mid after bytes kept no_fault read (bad.File line) why
-  run_lacks (bad.Topology line) why = of_file s before mid after bytes kept no_fault read (λ bytes. IsNoTopology bytes line) why.0 why.1
-  run_lacks (bad.NotBuilt line) why = of_file s before mid after bytes kept no_fault read (λ bytes. IsNotBuilt bytes line) why.0 why.1
-  run_lacks (bad.Image line) why = of_system s before mid after bytes kept no_fault read (λ bytes images. LacksRoomOnQueues bytes images line) why
+  run_lacks (bad.File line) why = as_text (bad.File line) why
+  run_lacks (bad.Topology line) why = as_text (bad.Topology line) why
+  run_lacks (bad.Image line) why = as_text (bad.Image line) why
+  run_lacks (bad.Broken cause line) why = of_system s before mid after bytes kept no_fault read (Breaks w cause line) why
   run_lacks (bad.Schedule line) why = absurd why
   run_lacks (bad.Asm line) why = absurd why
 
+  pub run_dials : DialsForText w bytes mid after → DialsInOrder w s before after
+  run_dials (inl none) = inl none
+  run_dials (inr of) = inr (of_system s before mid after bytes kept no_fault read (λ bytes _. OfTopology bytes (AreDialedFor w)) of)
+
 -- its file can't be read
-pub run_unread : (s : Sentence) (before after : FilesSeen) (fault : Fault) → IsFault (IsUnreadAs (file_of s) before after) fault → IsRunBad s before after (unread_of fault)
-run_unread s before after (fault.Line line) is = unread_file s before after (fault.Line line) is
-run_unread s before after fault.NoMemory is = tt
+pub run_unread : {O I : Type 0} (w : Wires O I) (s : Sentence) (before after : FilesSeen) (fault : Fault) → IsFault (IsUnreadAs (file_of s) before after) fault → IsRunBad w s before after (unread_of fault)
+run_unread w s before after (fault.Line line) is = unread_file s before after (fault.Line line) is
+run_unread w s before after fault.NoMemory is = tt
 
--- no link goes by proxy
-served : (inputs : Inputs) (line : List ℕ) → CanRun inputs.text inputs.more → IsNotBuilt inputs.text line → ⊥
-served inputs line can lacks =
-    let same : can.topology ≡ lacks.topology = one_topology inputs.text can.topology lacks.topology can.spelled lacks.spelled in
-    let clash : None ≡ Some lacks.fact.number = sym can.fact.by_queues ∙ ap first_proxied same ∙ lacks.fact.first in cc
+-- what can be run is refused for want of memory alone, where no read fails and the wires hold
+module _ {O I : Type 0} (w : Wires O I) (before after : FilesSeen) (s : Sentence) (can : CanTake s before.held) (stays : Stays before.faults after.faults) (hold : AllHold w) where
+  as_made : (bad : OutputBad) → IsOutputBad s before after bad → output_status bad ≡ 1
+  as_made bad why = made before after s can.inputs can.names can.are_further can.more_told can.told can.accepted bad why stays
 
-module _ (before after : FilesSeen) (file : Text) (stats : Bool) (inputs : Inputs) (names : List Text) (are : AreImages inputs.text names) (more_told : AllZip (λ name bytes. before.held name ≡ Some bytes) names inputs.more) (told : before.held file ≡ Some inputs.text) (can : CanRun inputs.text inputs.more) where
-  abbrev sentence : Sentence
-  sentence = Serial file stats
-
-  accepted : Accepts sentence inputs
-  accepted = record { topology = can.topology; spelled = can.spelled; fact = can.fact.fit }
-
-  as_made : (bad : OutputBad) → IsOutputBad sentence before after bad → Stays before.faults after.faults → output_status bad ≡ 1
-  as_made = made before after sentence inputs names are more_told told accepted
-
-  pub run_answer : (bad : OutputBad) → IsRunBad sentence before after bad → Stays before.faults after.faults → output_status bad ≡ 1
-  run_answer bad.NoMemory why stays = refl
-  run_answer (bad.File line) why stays = absurd (stays why.failed)
-  run_answer (bad.Topology line) why stays = as_made (bad.Topology line) why stays
-  run_answer (bad.NotBuilt line) why stays =
-      absurd (served inputs line can (of_text before after sentence inputs names are more_told told accepted (λ bytes. IsNotBuilt bytes line) why))
-  run_answer (bad.Image line) why stays = as_made (bad.Image line) (record {
-    bytes = why.bytes;
-    names = why.names;
-    are_images = why.are_images;
-    images = why.images;
-    read = why.read;
-    fact = record { topology = why.fact.topology; spelled = why.fact.spelled; fact = why.fact.fact.1 };
-  }) stays
-  run_answer (bad.Schedule line) why stays = absurd why
-  run_answer (bad.Asm line) why stays = absurd why
+  pub run_answer : (bad : OutputBad) → IsRunBad w s before after bad → output_status bad ≡ 1
+  run_answer bad.NoMemory why = refl
+  run_answer (bad.File line) why = as_made (bad.File line) why
+  run_answer (bad.Topology line) why = as_made (bad.Topology line) why
+  run_answer (bad.Image line) why = as_made (bad.Image line) why
+  run_answer (bad.Broken cause line) why = absurd (none_breaks w why.fact.topology hold cause why.fact.fact.broken.why)
+  run_answer (bad.Schedule line) why = as_made (bad.Schedule line) why
+  run_answer (bad.Asm line) why = as_made (bad.Asm line) why
 
 -- ---- the words
 
@@ -125,24 +99,43 @@ no_usage : (bad : OutputBad) → output_status bad ≡ 2 → ⊥
 no_usage bad.NoMemory status = omega (arith, status)
 no_usage (bad.File line) status = omega (arith, status)
 no_usage (bad.Topology line) status = omega (arith, status)
-no_usage (bad.NotBuilt line) status = omega (arith, status)
 no_usage (bad.Image line) status = omega (arith, status)
+no_usage (bad.Broken (broken.Lost channel) line) status = omega (arith, status)
+no_usage (bad.Broken (broken.Peer channel offset reason) line) status = omega (arith, status)
+no_usage (bad.Broken (broken.Differs channel offset) line) status = omega (arith, status)
 no_usage (bad.Schedule line) status = omega (arith, status)
 no_usage (bad.Asm line) status = omega (arith, status)
 
-module _ (words : List Text) (before after : FilesSeen) where
+-- a status from 2 to 5 is that of what is refused before anything is dialed
+early : (bad : OutputBad) → 2 ≤ output_status bad → output_status bad ≤ 5 → IsEarly bad
+early bad.NoMemory least most = omega (arith, least)
+early (bad.File line) least most = tt
+early (bad.Topology line) least most = tt
+early (bad.Image line) least most = tt
+early (bad.Broken (broken.Lost channel) line) least most = omega (arith, most)
+early (bad.Broken (broken.Peer channel offset reason) line) least most = omega (arith, most)
+early (bad.Broken (broken.Differs channel offset) line) least most = omega (arith, most)
+early (bad.Schedule line) least most = tt
+early (bad.Asm line) least most = tt
+
+pub early_refusal : (refusal : Refusal) → 2 ≤ status_of refusal → status_of refusal ≤ 5 → IsEarlyRefusal refusal
+early_refusal refused.NoMemory least most = omega (arith, least)
+early_refusal refused.Usage least most = tt
+early_refusal (refused.NoOutput bad) least most = early bad least most
+early_refusal refused.Out least most = omega (arith, most)
+
+module _ {O I : Type 0} (w : Wires O I) (words : List Text) (before after : FilesSeen) where
   -- the status for words that are no sentence
-  pub run_usage : (refusal : Refusal) → IsRunRefusal words before after refusal → (status_of refusal ≡ 1 → ⊥) → (status_of refusal ≡ 2) ↔ SaysNoRun words
+  pub run_usage : (refusal : Refusal) → IsRunRefusal w words before after refusal → (status_of refusal ≡ 1 → ⊥) → (status_of refusal ≡ 2) ↔ SaysNoRun words
   run_usage refused.NoMemory why other = absurd (other refl)
   run_usage refused.Usage why other = (λ is. why, λ none. refl)
   run_usage refused.Out why other = (λ is. absurd (let no : 9 ≡ 2 → ⊥ = omega arith in no is), λ none. absurd (none why.1.output.run why.1.output.says))
   run_usage (refused.NoOutput bad) why other = (λ is. absurd (no_usage bad is), λ none. absurd (none why.run why.says))
 
-  -- what can be run is refused for want of memory alone, where no read and no write fails
-  pub run_answered : (refusal : Refusal) → IsRunRefusal words before after refusal → (refusal ≡ refused.Out → ⊥) → CanRunWords words before.held → Stays before.faults after.faults → status_of refusal ≡ 1
-  run_answered refused.NoMemory why written can stays = refl
-  run_answered refused.Usage why written can stays = absurd (why can.run can.says)
-  run_answered refused.Out why written can stays = absurd (written refl)
-  run_answered (refused.NoOutput bad) why written can stays =
+  pub run_answered : (refusal : Refusal) → IsRunRefusal w words before after refusal → (refusal ≡ refused.Out → ⊥) → CanRunWords words before.held → Stays before.faults after.faults → AllHold w → status_of refusal ≡ 1
+  run_answered refused.NoMemory why written can stays hold = refl
+  run_answered refused.Usage why written can stays hold = absurd (why can.run can.says)
+  run_answered refused.Out why written can stays hold = absurd (written refl)
+  run_answered (refused.NoOutput bad) why written can stays hold =
       let same : as_serial why.run ≡ as_serial can.run = one_sentence words why.run can.run why.says can.says in
-      run_answer before after can.run.file can.run.stats can.inputs can.names can.are_images can.more_told can.told can.accepted bad (subst (λ (s : Sentence). IsRunBad s before after bad) same why.fact) stays
+      run_answer w before after (as_serial can.run) can.fact stays hold bad (subst (λ (s : Sentence). IsRunBad w s before after bad) same why.fact)

@@ -15,5 +15,5 @@ pub mod Outputs
 pub mod Local
 pub mod Outcomes
 pub mod RunWords
-pub mod Proxied
+pub mod Broken
 pub mod Threads

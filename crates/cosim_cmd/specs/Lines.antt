@@ -4,6 +4,10 @@ use Rattle.topology_file.specs.declared.reason.TopoReason.{TopoReason}
 use Rattle.topology_file.specs.declared.reason.Entry.{Entry}
 use Rattle.topology_file.specs.declared.reason.Entry.TheVariants.{Top, Component, Link}
 use Rattle.topology_file.specs.Reasons.{reason_text}
+use Rattle.cs_base.specs.declared.peer_reason.PeerReason.{PeerReason}
+use Rattle.cs_base.specs.PeerReasons.{peer_reason_text}
+use Rattle.cosim_cmd.specs.declared.breaks.Break.{Break}
+use Rattle.cosim_cmd.specs.declared.breaks.Break.TheVariants as broken
 use Rattle.rv32_asm.specs.Reasons.{reason_text as asm_reason_text}
 use Rattle.rv32_asm.specs.declared.reason.AsmReason.{AsmReason}
 
@@ -41,9 +45,23 @@ image_line name = codes "cosim: image " ++ name ++ 10 ∷ []
 abbrev pub asm_line : ℕ → AsmReason → List ℕ
 asm_line number reason = codes "cosim: asm " ++ decimal number ++ codes " " ++ asm_reason_text reason ++ 10 ∷ []
 
--- about a link that the command can't serve
-abbrev pub not_built_line : ℕ → List ℕ
-not_built_line link = codes "cosim: not built link " ++ decimal link ++ 10 ∷ []
+-- about a channel whose wire is lost, one on which bytes came that can't be, and one on which other bytes came than were
+-- sent
+abbrev pub lost_line : ℕ → List ℕ
+lost_line channel = codes "cosim: link lost " ++ decimal channel ++ 10 ∷ []
+
+abbrev pub peer_line : ℕ → ℕ → PeerReason → List ℕ
+peer_line channel offset reason = codes "cosim: bad peer " ++ decimal channel ++ codes " " ++ decimal offset ++ codes " "
+    ++ peer_reason_text reason ++ 10 ∷ []
+
+abbrev pub differs_line : ℕ → ℕ → List ℕ
+differs_line channel offset = codes "cosim: link differs " ++ decimal channel ++ codes " " ++ decimal offset ++ 10 ∷ []
+
+-- about a run that is broken off
+abbrev pub break_line : Break → List ℕ
+break_line (broken.Lost channel) = lost_line channel
+break_line (broken.Peer channel offset reason) = peer_line channel offset reason
+break_line (broken.Differs channel offset) = differs_line channel offset
 
 -- about a line of a schedule
 abbrev pub schedule_line : ℕ → List ℕ

@@ -37,7 +37,7 @@ abbrev pub Lacks : Task → FilesSeen → FilesSeen → OutputBad → Type 0
 Lacks task before after bad.NoMemory = ⊤
 Lacks task before after (bad.File line) = IsUnreadOf (further_of task) before after line
 Lacks task before after (bad.Topology line) = LacksTopology task.sentence task.bytes line × AsksNothing before after
-Lacks task before after (bad.NotBuilt line) = ⊥
+Lacks task before after (bad.Broken cause line) = ⊥
 Lacks task before after (bad.Image line) = OfPrograms task before after (λ images. LacksHostRoom task.sentence task.bytes images line)
 Lacks task before after (bad.Schedule line) = OfRest task before after (λ inputs. LacksStep task.sentence inputs line)
 Lacks task before after (bad.Asm line) = LacksProgram task.sentence task.bytes line × AsksNothing before after
@@ -76,7 +76,7 @@ abbrev pub IsOutputBad : Sentence → FilesSeen → FilesSeen → OutputBad → 
 IsOutputBad s before after bad.NoMemory = ⊤
 IsOutputBad s before after (bad.File line) = IsUnread s before after line
 IsOutputBad s before after (bad.Topology line) = OfFile s before after (λ bytes. LacksTopology s bytes line)
-IsOutputBad s before after (bad.NotBuilt line) = ⊥
+IsOutputBad s before after (bad.Broken cause line) = ⊥
 IsOutputBad s before after (bad.Image line) = OfSystem s before after (λ bytes images. LacksHostRoom s bytes images line)
 IsOutputBad s before after (bad.Schedule line) = OfInputs s before after (λ inputs. LacksStep s inputs line)
 IsOutputBad s before after (bad.Asm line) = OfFile s before after (λ bytes. LacksProgram s bytes line)

@@ -77,6 +77,6 @@ IsModelBad bytes before after bad.NoMemory = ⊤
 IsModelBad bytes before after (bad.Topology line) = IsNoTopology bytes line × AsksNothing before after
 IsModelBad bytes before after (bad.File line) = IsUnreadOf (AreImages bytes) before after line
 IsModelBad bytes before after (bad.Image line) = OfRead (AreImages bytes) before after (λ images. LacksRoom bytes images line)
-IsModelBad bytes before after (bad.NotBuilt line) = ⊥
+IsModelBad bytes before after (bad.Broken cause line) = ⊥
 IsModelBad bytes before after (bad.Schedule line) = ⊥
 IsModelBad bytes before after (bad.Asm line) = ⊥

@@ -1,5 +1,7 @@
 -- The exit status and the line of each refusal.
 use Rattle.std.specs.Prelude.{ℕ, List, ⊤}
+use Rattle.cosim_cmd.specs.declared.breaks.Break.{Break}
+use Rattle.cosim_cmd.specs.declared.breaks.Break.TheVariants as broken
 use Rattle.cosim_cmd.specs.declared.refusal.Fault.{Fault}
 use Rattle.cosim_cmd.specs.declared.refusal.Fault.TheVariants as fault
 use Rattle.cosim_cmd.specs.declared.refusal.OutputBad.{OutputBad}
@@ -9,12 +11,17 @@ use Rattle.cosim_cmd.specs.declared.refusal.Refusal.TheVariants as refused
 use Rattle.cosim_cmd.specs.Lines.{memory_line, usage_line, out_line}
 
 -- the exit status
+abbrev pub break_status : Break → ℕ
+break_status (broken.Lost channel) = 6
+break_status (broken.Peer channel offset reason) = 7
+break_status (broken.Differs channel offset) = 8
+
 abbrev pub output_status : OutputBad → ℕ
 output_status bad.NoMemory = 1
 output_status (bad.File line) = 3
 output_status (bad.Topology line) = 4
-output_status (bad.NotBuilt line) = 20
 output_status (bad.Image line) = 5
+output_status (bad.Broken cause line) = break_status cause
 output_status (bad.Schedule line) = 10
 output_status (bad.Asm line) = 11
 
@@ -29,8 +36,8 @@ abbrev pub output_line : OutputBad → List ℕ
 output_line bad.NoMemory = memory_line
 output_line (bad.File line) = line
 output_line (bad.Topology line) = line
-output_line (bad.NotBuilt line) = line
 output_line (bad.Image line) = line
+output_line (bad.Broken cause line) = line
 output_line (bad.Schedule line) = line
 output_line (bad.Asm line) = line
 

@@ -107,5 +107,5 @@ IsReplayBad bytes name before after (bad.Topology line) = IsNoTopology bytes lin
 IsReplayBad bytes name before after (bad.File line) = IsUnreadOf (AreImagesAnd bytes name) before after line
 IsReplayBad bytes name before after (bad.Image line) = OfRead (AreImages bytes) before after (λ images. LacksRoom bytes images line)
 IsReplayBad bytes name before after (bad.Schedule line) = OfRead (AreImagesAnd bytes name) before after (λ contents. IsScheduleRefused bytes contents line)
-IsReplayBad bytes name before after (bad.NotBuilt line) = ⊥
+IsReplayBad bytes name before after (bad.Broken cause line) = ⊥
 IsReplayBad bytes name before after (bad.Asm line) = ⊥

@@ -2,6 +2,7 @@
 #![tactic(auto)]
 
 mod asm;
+mod breaks;
 mod check;
 mod input;
 mod line;
@@ -9,7 +10,6 @@ mod local;
 mod model;
 mod names;
 mod outcomes;
-mod proxied;
 mod refusal;
 mod replay;
 mod report;

@@ -1,8 +1,9 @@
 //! The lines that say why a command is refused.
 ghost use Rattle.std.specs.Prelude.{◌≡◌, ◌++◌, IfOk, OnOk};
-ghost use Rattle.cosim_cmd.specs.Lines.{entry_text, file_line, toml_line, topology_line, not_built_line, image_line, schedule_line, asm_line};
+ghost use Rattle.cosim_cmd.specs.Lines.{entry_text, file_line, toml_line, topology_line, lost_line, peer_line, differs_line, break_line, image_line, schedule_line, asm_line};
 
-use cs_base::{NoMemory, Octets, decimal};
+use crate::breaks::Break;
+use cs_base::{NoMemory, Octets, PeerReason, decimal};
 use rv32_asm::AsmReason;
 use std::alloc::Global;
 use topology_file::{Entry, TopoReason};
@@ -57,15 +58,63 @@ pub fn toml_line(alloc: Global) -> Result<Octets, NoMemory>
     Ok(line)
 }
 
-/// About a link that the command can't serve.
-pub fn not_built_line(alloc: Global, link: u64) -> Result<Octets, NoMemory>
-    ensures { IfOk result (λ line. line ≡ not_built_line link) }
+/// About a channel whose wire is lost.
+fn lost_line(alloc: Global, channel: u32) -> Result<Octets, NoMemory>
+    ensures { IfOk result (λ line. line ≡ lost_line channel) }
 {
     let mut line = Octets::new(alloc);
-    line.append(b"cosim: not built link ")?;
-    decimal(link, &mut line)?;
+    line.append(b"cosim: link lost ")?;
+    decimal(u64::from(channel), &mut line)?;
     line.append(b"\n")?;
     Ok(line)
+}
+
+/// About a channel on which bytes came that can't be.
+fn peer_line(
+    alloc: Global,
+    channel: u32,
+    offset: u64,
+    reason: PeerReason,
+) -> Result<Octets, NoMemory>
+    ensures { IfOk result (λ line. line ≡ peer_line channel offset reason) }
+{
+    let mut line = Octets::new(alloc);
+    line.append(b"cosim: bad peer ")?;
+    decimal(u64::from(channel), &mut line)?;
+    line.append(b" ")?;
+    decimal(offset, &mut line)?;
+    line.append(b" ")?;
+    line.append(reason.text())?;
+    line.append(b"\n")?;
+    Ok(line)
+}
+
+/// About a channel on which other bytes came than were sent.
+fn differs_line(alloc: Global, channel: u32, offset: u64) -> Result<Octets, NoMemory>
+    ensures { IfOk result (λ line. line ≡ differs_line channel offset) }
+{
+    let mut line = Octets::new(alloc);
+    line.append(b"cosim: link differs ")?;
+    decimal(u64::from(channel), &mut line)?;
+    line.append(b" ")?;
+    decimal(offset, &mut line)?;
+    line.append(b"\n")?;
+    Ok(line)
+}
+
+/// About a run that is broken off.
+pub fn break_line(alloc: Global, cause: &Break) -> Result<Octets, NoMemory>
+    ensures { IfOk result (λ line. line ≡ break_line cause.now) }
+{
+    match cause {
+        Break::Lost { channel } => lost_line(alloc, *channel),
+        Break::Peer {
+            channel,
+            offset,
+            reason,
+        } => peer_line(alloc, *channel, *offset, *reason),
+        Break::Differs { channel, offset } => differs_line(alloc, *channel, *offset),
+    }
 }
 
 /// About a line of a schedule.

@@ -2,6 +2,7 @@
 ghost use Rattle.std.specs.Prelude.{◌≡◌};
 ghost use Rattle.cosim_cmd.specs.Refusals.{unread_of, too_long_of, unplayed_of};
 
+use crate::breaks::Break;
 use cs_base::{NoMemory, Octets};
 
 /// Why a text can't be taken, or a file can't be read.
@@ -33,10 +34,10 @@ pub enum OutputBad {
     File(Octets),
     /// The file is no topology.
     Topology(Octets),
-    /// The topology has a link that the command can't serve.
-    NotBuilt(Octets),
     /// The program of a host is longer than its RAM.
     Image(Octets),
+    /// The run is broken off for this, and the line says so.
+    Broken { cause: Break, line: Octets },
     /// A line of the schedule spells no step that is enabled in its turn.
     Schedule(Octets),
     /// The source can't be assembled.

@@ -3,6 +3,7 @@ ghost use Rattle.std.specs.Prelude.{◌≡◌};
 ghost use Rattle.cosim_cmd.specs.Refusals.{status_of, line_of};
 ghost use Rattle.cosim_cmd.specs.Written.{IsAttempted};
 
+use crate::breaks::Break;
 use crate::refusal::{OutputBad, Refusal};
 use crate::write::write_all;
 use cs_base::Sink;
@@ -11,6 +12,21 @@ fn write_line<E: Sink>(err: &mut E, line: &[u8])
     ensures { IsAttempted (E.seen err.old) (E.seen err.new) line.now }
 {
     let _ = write_all(err, line);
+}
+
+impl Break {
+    ghost use Rattle.cosim_cmd.specs.Refusals.{break_status};
+
+    /// The exit status.
+    fn status(&self) -> u8
+        ensures { result ≡ break_status self.now }
+    {
+        match self {
+            Break::Lost { .. } => 6,
+            Break::Peer { .. } => 7,
+            Break::Differs { .. } => 8,
+        }
+    }
 }
 
 impl OutputBad {
@@ -24,8 +40,8 @@ impl OutputBad {
             OutputBad::NoMemory => 1,
             OutputBad::File(_) => 3,
             OutputBad::Topology(_) => 4,
-            OutputBad::NotBuilt(_) => 20,
             OutputBad::Image(_) => 5,
+            OutputBad::Broken { cause, .. } => cause.status(),
             OutputBad::Schedule(_) => 10,
             OutputBad::Asm(_) => 11,
         }
@@ -39,8 +55,8 @@ impl OutputBad {
             OutputBad::NoMemory => b"cosim: no memory\n",
             OutputBad::File(line)
             | OutputBad::Topology(line)
-            | OutputBad::NotBuilt(line)
             | OutputBad::Image(line)
+            | OutputBad::Broken { line, .. }
             | OutputBad::Schedule(line)
             | OutputBad::Asm(line) => line.as_slice(),
         }

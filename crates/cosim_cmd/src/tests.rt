@@ -12,6 +12,7 @@ mod failing;
 mod images;
 mod loading;
 mod modelling;
+mod piped;
 mod replaying;
 mod running;
 mod sentences;

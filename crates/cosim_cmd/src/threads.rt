@@ -1,29 +1,30 @@
 //! The run of a topology on threads: what `model` writes, by components on workers.
-ghost use Rattle.std.specs.Prelude.{◌≡◌, ◌≤◌, All, None, map, IfOk, IfErr};
+ghost use Rattle.std.specs.Prelude.{◌≡◌, ◌≤◌, ◌⊎◌, [], All, map, IfOk, IfErr};
 ghost use Rattle.device_set.specs.AnyKind.{any_device, IsSettledDevice};
-ghost use Rattle.thread_run.specs.Rests.{AreTranscripts};
+ghost use Rattle.global_model.specs.Runs.{HasLogsOf, HasCountsOf};
+ghost use Rattle.thread_run.specs.Whole.{AreWhole};
+ghost use Rattle.cosim_cmd.specs.Broken.{wires, AreUntouched, AreDialedFor, HasCarried, IsRunFault};
 ghost use Rattle.cosim_cmd.specs.Inputs.{AreImages, OfRead, AsksIfAny};
-ghost use Rattle.cosim_cmd.specs.Model.{run_text, IsTooLong};
-ghost use Rattle.cosim_cmd.specs.Refusals.{IsFault};
-ghost use Rattle.cosim_cmd.specs.Proxied.{first_proxied};
+ghost use Rattle.cosim_cmd.specs.Model.{run_text};
 ghost use Rattle.cosim_cmd.specs.Replay.{AreOfHosts};
-ghost use Rattle.cosim_cmd.specs.Threads.{IsThreaded, IsRunOf, IsSystemBad, IsTextBad};
+ghost use Rattle.cosim_cmd.specs.Threads.{IsThreaded, IsRunOf, DialsForSystem, DialsForText, IsReadyBad, IsSystemBad, IsTextBad, IsEarly};
 
+use crate::breaks::{Break, broken, faulted};
 use crate::input::contents;
-use crate::line::not_built_line;
 use crate::model::started;
 use crate::outcomes::outcome_text;
-use crate::proxied::first_proxied;
 use crate::refusal::{Fault, OutputBad, too_long, unread};
 use crate::run_words::Run;
 use crate::topology_text::topology;
-use cs_base::{Dialer, Files, Gate, NoMemory, Octets};
+use cs_base::{Dialer, Files, Gate, Octets, WireEnd};
+use device_api::Outcome;
 use device_set::{AnyDevice, image_names};
+use run_threads::BuildBad;
 use slot_queue::Rest;
 use std::alloc::Global;
 use std::sync::Wait;
 use std::thread::Threads;
-use thread_run::run_on_workers;
+use thread_run::{WholeRun, run_whole};
 use topology_file::Topology;
 
 /// What a run writes, and its closed queues.
@@ -33,30 +34,45 @@ pub struct RunOutput {
     pub rests: Vec<Rest>,
 }
 
+/// What devices leave that have run to their end.
+#[derive(Drop)]
+struct Ended {
+    outcome: Outcome,
+    rests: Vec<Rest>,
+}
+
 /// The run of a topology's devices on as many workers as the words say.
-fn threaded<R: Threads + Wait + Sync, D: Dialer, G: Gate + Sync>(
+fn run_devices<R: Threads + Wait + Sync, D: Dialer, G: Gate + Sync>(
     rt: &R,
     alloc: Global,
     words: &Run,
     topology: &Topology,
     devices: Vec<AnyDevice>,
     dial: &mut D,
+    ends: &mut Vec<WireEnd<D::Out, D::In>>,
     gate: &G,
-) -> Result<RunOutput, NoMemory>
+) -> Result<Ended, OutputBad>
 where
-    D::Out: Drop,
-    D::In: Drop,
+    D::Out: Drop + Send,
+    D::In: Drop + Send,
     requires matches { map any_device.ports devices.items ≡ topology.now.wiring.kinds }
     requires at_start { All (λ device. IsSettledDevice device 0) devices.items }
-    requires by_queues { first_proxied topology.now ≡ None }
     requires workers { (1 ≤ words.now.workers) × (words.now.workers ≤ 64) }
-    ensures text { IfOk result (λ made.
-        made.text ≡ run_text words.now.stats topology.now devices.items) }
-    ensures rests { IfOk result (λ made. AreTranscripts any_device devices.items
-        topology.now.wiring.links topology.now.wiring.end made.rests.items) }
-    ensures dialed { dial.new ≡ dial.old }
+    requires none_left { ends.old.items ≡ [] }
+    ensures logs { IfOk result (λ ran.
+        HasLogsOf any_device devices.items topology.now.wiring ran.outcome) }
+    ensures counts { IfOk result (λ ran.
+        HasCountsOf any_device devices.items topology.now.wiring ran.outcome) }
+    ensures rests { IfOk result (λ ran. AreWhole any_device devices.items
+        topology.now.wiring.links topology.now.wiring.end ran.rests.items) }
+    ensures carried { IfOk result (λ ran. HasCarried (wires D.Out.seen D.In.seen
+        (D.seen dial.old) (D.seen dial.new) ends.new.items) topology.now ran.rests.items) }
+    ensures refused { IfErr result (IsRunFault (wires D.Out.seen D.In.seen
+        (D.seen dial.old) (D.seen dial.new) ends.new.items) topology.now) }
+    ensures dialed { AreDialedFor (wires D.Out.seen D.In.seen
+        (D.seen dial.old) (D.seen dial.new) ends.new.items) topology.now }
 {
-    let ran = run_on_workers(
+    let ran = run_whole(
         rt,
         alloc,
         devices,
@@ -64,7 +80,57 @@ where
         words.workers(),
         dial,
         gate,
-    )?;
+    );
+    let WholeRun {
+        ended,
+        outcome,
+        rests,
+        ends: left,
+    } = match ran {
+        Ok(run) => run,
+        Err(BuildBad::Lost { channel }) => return Err(broken(alloc, Break::Lost { channel })),
+        Err(BuildBad::NoMemory) => return Err(OutputBad::NoMemory),
+    };
+    *ends = left;
+    match ended {
+        Ok(()) => Ok(Ended { outcome, rests }),
+        Err(fault) => Err(faulted(alloc, fault)),
+    }
+}
+
+/// What is written and left of a topology's devices.
+fn threaded<R: Threads + Wait + Sync, D: Dialer, G: Gate + Sync>(
+    rt: &R,
+    alloc: Global,
+    words: &Run,
+    topology: &Topology,
+    devices: Vec<AnyDevice>,
+    dial: &mut D,
+    ends: &mut Vec<WireEnd<D::Out, D::In>>,
+    gate: &G,
+) -> Result<RunOutput, OutputBad>
+where
+    D::Out: Drop + Send,
+    D::In: Drop + Send,
+    requires matches { map any_device.ports devices.items ≡ topology.now.wiring.kinds }
+    requires at_start { All (λ device. IsSettledDevice device 0) devices.items }
+    requires workers { (1 ≤ words.now.workers) × (words.now.workers ≤ 64) }
+    requires none_left { ends.old.items ≡ [] }
+    ensures text { IfOk result (λ made.
+        made.text ≡ run_text words.now.stats topology.now devices.items) }
+    ensures rests { IfOk result (λ made. AreWhole any_device devices.items
+        topology.now.wiring.links topology.now.wiring.end made.rests.items) }
+    ensures carried { IfOk result (λ made. HasCarried (wires D.Out.seen D.In.seen
+        (D.seen dial.old) (D.seen dial.new) ends.new.items) topology.now made.rests.items) }
+    ensures refused { IfErr result (IsRunFault (wires D.Out.seen D.In.seen
+        (D.seen dial.old) (D.seen dial.new) ends.new.items) topology.now) }
+    ensures dialed { AreDialedFor (wires D.Out.seen D.In.seen
+        (D.seen dial.old) (D.seen dial.new) ends.new.items) topology.now }
+{
+    let ran = match run_devices(rt, alloc, words, topology, devices, dial, ends, gate) {
+        Ok(ran) => ran,
+        Err(bad) => return Err(bad),
+    };
     let text = outcome_text(alloc, words.stats(), topology, &ran.outcome)?;
     Ok(RunOutput {
         text,
@@ -80,25 +146,33 @@ fn ready<R: Threads + Wait + Sync, D: Dialer, G: Gate + Sync>(
     topology: &Topology,
     images: Vec<Octets>,
     dial: &mut D,
+    ends: &mut Vec<WireEnd<D::Out, D::In>>,
     gate: &G,
-) -> Result<RunOutput, Fault>
+) -> Result<RunOutput, OutputBad>
 where
-    D::Out: Drop,
-    D::In: Drop,
-    requires by_queues { first_proxied topology.now ≡ None }
+    D::Out: Drop + Send,
+    D::In: Drop + Send,
     requires workers { (1 ≤ words.now.workers) × (words.now.workers ≤ 64) }
-    ensures made { IfOk result (λ made.
-        IsThreaded words.now.stats topology.now images.items made.text made.rests.items) }
-    ensures refused { IfErr result (IsFault (IsTooLong topology.now images.items)) }
-    ensures dialed { dial.new ≡ dial.old }
+    requires none_left { ends.old.items ≡ [] }
+    ensures made { IfOk result (λ made. IsThreaded (wires D.Out.seen D.In.seen
+        (D.seen dial.old) (D.seen dial.new) ends.new.items)
+        words.now.stats topology.now images.items made.text made.rests.items) }
+    ensures refused { IfErr result (IsReadyBad (wires D.Out.seen D.In.seen
+        (D.seen dial.old) (D.seen dial.new) ends.new.items) topology.now images.items) }
+    ensures dialed { AreUntouched (wires D.Out.seen D.In.seen
+        (D.seen dial.old) (D.seen dial.new) ends.new.items)
+        ⊎ AreDialedFor (wires D.Out.seen D.In.seen
+        (D.seen dial.old) (D.seen dial.new) ends.new.items) topology.now }
+    ensures untouched { IfErr result (λ bad. IsEarly bad → AreUntouched (wires D.Out.seen D.In.seen
+        (D.seen dial.old) (D.seen dial.new) ends.new.items)) }
 {
     match started(alloc, topology, images) {
-        Ok(devices) => Ok(threaded(rt, alloc, words, topology, devices, dial, gate)?),
-        Err(fault) => Err(fault),
+        Ok(devices) => threaded(rt, alloc, words, topology, devices, dial, ends, gate),
+        Err(fault) => Err(too_long(fault)),
     }
 }
 
-/// What is written and left of a topology that is served. The programs of hosts are read first.
+/// What is written and left of a topology. The programs of hosts are read first.
 fn on_threads<R: Threads + Wait + Sync, F: Files, D: Dialer, G: Gate + Sync>(
     rt: &R,
     alloc: Global,
@@ -106,31 +180,36 @@ fn on_threads<R: Threads + Wait + Sync, F: Files, D: Dialer, G: Gate + Sync>(
     topology: &Topology,
     files: &mut F,
     dial: &mut D,
+    ends: &mut Vec<WireEnd<D::Out, D::In>>,
     gate: &G,
 ) -> Result<RunOutput, OutputBad>
 where
-    D::Out: Drop,
-    D::In: Drop,
-    requires by_queues { first_proxied topology.now ≡ None }
+    D::Out: Drop + Send,
+    D::In: Drop + Send,
     requires workers { (1 ≤ words.now.workers) × (words.now.workers ≤ 64) }
+    requires none_left { ends.old.items ≡ [] }
     ensures made { IfOk result (λ made.
         OfRead (AreOfHosts topology.now) (F.seen files.old) (F.seen files.new)
-        (λ images. IsThreaded words.now.stats topology.now images made.text made.rests.items)) }
-    ensures refused { IfErr result
-        (IsSystemBad topology.now (F.seen files.old) (F.seen files.new)) }
+        (λ images. IsThreaded (wires D.Out.seen D.In.seen
+        (D.seen dial.old) (D.seen dial.new) ends.new.items)
+        words.now.stats topology.now images made.text made.rests.items)) }
+    ensures refused { IfErr result (IsSystemBad (wires D.Out.seen D.In.seen
+        (D.seen dial.old) (D.seen dial.new) ends.new.items)
+        topology.now (F.seen files.old) (F.seen files.new)) }
     ensures asked { AsksIfAny (AreOfHosts topology.now) (F.seen files.old) (F.seen files.new) }
     ensures files_kept { (F.seen files.new).held ≡ (F.seen files.old).held }
-    ensures dialed { dial.new ≡ dial.old }
+    ensures dialed { DialsForSystem (wires D.Out.seen D.In.seen
+        (D.seen dial.old) (D.seen dial.new) ends.new.items)
+        topology.now (F.seen files.old) (F.seen files.new) }
+    ensures untouched { IfErr result (λ bad. IsEarly bad → AreUntouched (wires D.Out.seen D.In.seen
+        (D.seen dial.old) (D.seen dial.new) ends.new.items)) }
 {
     let names = image_names(alloc, topology)?;
     let images = match contents(alloc, names.as_slice(), files) {
         Ok(images) => images,
         Err(fault) => return Err(unread(fault)),
     };
-    match ready(rt, alloc, words, topology, images, dial, gate) {
-        Ok(made) => Ok(made),
-        Err(fault) => Err(too_long(fault)),
-    }
+    ready(rt, alloc, words, topology, images, dial, ends, gate)
 }
 
 /// What is written and left of a topology text.
@@ -141,27 +220,34 @@ pub fn run_of_text<R: Threads + Wait + Sync, F: Files, D: Dialer, G: Gate + Sync
     bytes: &[u8],
     files: &mut F,
     dial: &mut D,
+    ends: &mut Vec<WireEnd<D::Out, D::In>>,
     gate: &G,
 ) -> Result<RunOutput, OutputBad>
 where
-    D::Out: Drop,
-    D::In: Drop,
+    D::Out: Drop + Send,
+    D::In: Drop + Send,
     requires workers { (1 ≤ words.now.workers) × (words.now.workers ≤ 64) }
+    requires none_left { ends.old.items ≡ [] }
     ensures made { IfOk result (λ made.
         OfRead (AreImages bytes.now) (F.seen files.old) (F.seen files.new)
-        (λ images. IsRunOf words.now.stats bytes.now images made.text made.rests.items)) }
-    ensures refused { IfErr result (IsTextBad bytes.now (F.seen files.old) (F.seen files.new)) }
+        (λ images. IsRunOf (wires D.Out.seen D.In.seen
+        (D.seen dial.old) (D.seen dial.new) ends.new.items)
+        words.now.stats bytes.now images made.text made.rests.items)) }
+    ensures refused { IfErr result (IsTextBad (wires D.Out.seen D.In.seen
+        (D.seen dial.old) (D.seen dial.new) ends.new.items)
+        bytes.now (F.seen files.old) (F.seen files.new)) }
     ensures asked { AsksIfAny (AreImages bytes.now) (F.seen files.old) (F.seen files.new) }
     ensures files_kept { (F.seen files.new).held ≡ (F.seen files.old).held }
-    ensures dialed { dial.new ≡ dial.old }
+    ensures dialed { DialsForText (wires D.Out.seen D.In.seen
+        (D.seen dial.old) (D.seen dial.new) ends.new.items)
+        bytes.now (F.seen files.old) (F.seen files.new) }
+    ensures untouched { IfErr result (λ bad. IsEarly bad → AreUntouched (wires D.Out.seen D.In.seen
+        (D.seen dial.old) (D.seen dial.new) ends.new.items)) }
 {
     let topology = match topology(alloc, bytes) {
         Ok(topology) => topology,
         Err(Fault::Line(line)) => return Err(OutputBad::Topology(line)),
         Err(Fault::NoMemory) => return Err(OutputBad::NoMemory),
     };
-    match first_proxied(&topology) {
-        Some(link) => Err(OutputBad::NotBuilt(not_built_line(alloc, link)?)),
-        None => on_threads(rt, alloc, words, &topology, files, dial, gate),
-    }
+    on_threads(rt, alloc, words, &topology, files, dial, ends, gate)
 }

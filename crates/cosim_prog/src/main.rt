@@ -2,12 +2,13 @@
 #![tactic(auto)]
 
 use cosim_cmd::{cosim_local, cosim_run};
-use cs_base::{Files, ListDialer, OpenGate, Queue, RealFiles, RealSink, Sink};
+use cs_base::{Dialer, Files, OpenGate, RealFiles, RealSink, Sink};
 use std::alloc::Global;
 use std::process::ExitCode;
 use std::sync::Wait;
 use std::thread::Threads;
 use std::{env, io};
+use tcp_dialer::TcpDialer;
 
 /// The words after the program's name. Where a word is no UTF-8 there are none, and so no sentence.
 fn words(rt: &HostRuntime) -> io::Result<Vec<String>> {
@@ -32,20 +33,24 @@ fn are_of_run(words: &[String]) -> bool {
     }
 }
 
-/// Runs components on threads. No channel is dialed yet, so there are no wires.
-fn on_threads<R: Threads + Wait + Sync, F: Files, K: Sink, E: Sink>(
+/// Runs components on threads.
+fn on_threads<R: Threads + Wait + Sync, F: Files, D: Dialer, K: Sink, E: Sink>(
     rt: &R,
     alloc: Global,
     words: &[String],
     files: &mut F,
+    dial: &mut D,
     out: &mut K,
     err: &mut E,
-) -> u8 {
-    let mut dial = ListDialer::new(alloc, Queue::new(alloc));
+) -> u8
+where
+    D::Out: Drop + Send,
+    D::In: Drop + Send,
+{
     let mut ends = Vec::new(alloc);
     let mut rests = Vec::new(alloc);
     cosim_run(
-        rt, alloc, words, files, &mut dial, &mut ends, &mut rests, out, err, &OpenGate,
+        rt, alloc, words, files, dial, &mut ends, &mut rests, out, err, &OpenGate,
     )
 }
 
@@ -59,7 +64,16 @@ fn main(rt: HostRuntime) -> ExitCode {
     let mut files = RealFiles::new(&rt);
     let mut out = RealSink::new(rt.stdout());
     let status = if are_of_run(words) {
-        on_threads(&rt, rt.alloc(), words, &mut files, &mut out, &mut err)
+        let mut dial = TcpDialer::new(&rt);
+        on_threads(
+            &rt,
+            rt.alloc(),
+            words,
+            &mut files,
+            &mut dial,
+            &mut out,
+            &mut err,
+        )
     } else {
         cosim_local(rt.alloc(), words, &mut files, &mut out, &mut err)
     };

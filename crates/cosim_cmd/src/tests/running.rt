@@ -3,7 +3,8 @@ use super::images::{HOST, file};
 use super::switching::{NO_PORTS, THREE_STATIONS};
 use super::{Answer, FILE, FOUR_LINES, TWO_BEACONS, files, owned, plain, sink};
 use crate::cosim_run;
-use cs_base::{Gate, Items, ListDialer, MemFiles, MemSink, Octets, OpenGate, Queue};
+use cs_base::{Gate, Items, MemFiles, MemSink, Octets, OpenGate, Queue};
+use pipe_wires::PipeDialer;
 use std::alloc::Global;
 use std::sync::Wait;
 use std::sync::atomic::{AtomicU64, Ordering};
@@ -11,24 +12,26 @@ use std::test::Fail;
 use std::thread;
 use std::thread::Threads;
 
-/// What `run` answers, and how many queues it leaves.
+/// What `run` answers, how many queues it leaves, and how many channels by proxy.
 #[derive(Drop)]
-struct Run {
-    answer: Answer,
-    rests: usize,
+pub(super) struct Run {
+    pub(super) answer: Answer,
+    pub(super) rests: usize,
+    pub(super) ends: usize,
 }
 
-fn run_of<R: Threads + Wait + Sync, G: Gate + Sync>(
+/// A run over pipes.
+pub(super) fn run_over<R: Threads + Wait + Sync, G: Gate + Sync>(
     rt: &R,
     alloc: Global,
     words: &[&str],
     files: &mut MemFiles,
+    dial: &mut PipeDialer,
     out: &mut MemSink,
     err: &mut MemSink,
     gate: &G,
 ) -> Result<Run, Fail> {
     let words = owned(alloc, words)?;
-    let mut dial = ListDialer::new(alloc, Queue::new(alloc));
     let mut ends = Vec::new(alloc);
     let mut rests = Vec::new(alloc);
     let status = cosim_run(
@@ -36,7 +39,7 @@ fn run_of<R: Threads + Wait + Sync, G: Gate + Sync>(
         alloc,
         words.as_slice(),
         files,
-        &mut dial,
+        dial,
         &mut ends,
         &mut rests,
         out,
@@ -50,7 +53,21 @@ fn run_of<R: Threads + Wait + Sync, G: Gate + Sync>(
             err: Octets::from_slice(alloc, err.written())?,
         },
         rests: rests.len(),
+        ends: ends.len(),
     })
+}
+
+fn run_of<R: Threads + Wait + Sync, G: Gate + Sync>(
+    rt: &R,
+    alloc: Global,
+    words: &[&str],
+    files: &mut MemFiles,
+    out: &mut MemSink,
+    err: &mut MemSink,
+    gate: &G,
+) -> Result<Run, Fail> {
+    let mut dial = PipeDialer::new(alloc, Queue::new(alloc), Items::new(alloc));
+    run_over(rt, alloc, words, files, &mut dial, out, err, gate)
 }
 
 /// A run on a topology text, over an output that takes all.
@@ -71,7 +88,7 @@ fn run_on<R: Threads + Wait + Sync>(
     )
 }
 
-const WORKERS: [&str; 4] = ["--workers=1", "--workers=2", "--workers=5", "--workers=64"];
+pub(super) const WORKERS: [&str; 4] = ["--workers=1", "--workers=2", "--workers=5", "--workers=64"];
 
 /// Keys of the two beacons' topology and of its link, under which `run` writes what `model` does.
 const SERVED: [(&str, &str); 5] = [
@@ -92,7 +109,7 @@ fn workers_write_the_global_run(rt: HostRuntime) -> Result<(), Fail> {
             let run = run_on(&rt, rt.alloc(), &["run", FILE, "--stats", *workers], text)?;
             assert_eq!(rt; run.answer.status, 0);
             assert_eq!(rt; run.answer.out.as_slice(), global.out.as_slice());
-            assert_eq!(rt; run.rests, 2);
+            assert_eq!(rt; (run.rests, run.ends), (2, 0));
         }
     }
     Ok(())
@@ -226,21 +243,6 @@ fn sentences_of_run_name_their_file(rt: HostRuntime) -> Result<(), Fail> {
         assert_eq!(rt; unread.answer.status, 3);
         assert_eq!(rt; unread.answer.err.as_slice(), line.as_bytes());
     }
-    Ok(())
-}
-
-#[test]
-fn links_by_proxy_are_not_run(rt: HostRuntime) -> Result<(), Fail> {
-    let topology = format!(in rt.alloc(); "end = 2600{TWO_BEACONS}via = \"proxy\"\n")?;
-    let refused = run_on(
-        &rt,
-        rt.alloc(),
-        &["run", FILE, "--workers=2"],
-        topology.as_bytes(),
-    )?;
-    assert_eq!(rt; refused.answer.status, 20);
-    let line = b"cosim: not built link 0\n";
-    assert_eq!(rt; refused.answer.err.as_slice(), line.as_slice());
     Ok(())
 }
 

@@ -11,7 +11,7 @@ returns-in-Ok-clause-usage g c =
 
 pub returns-in-Err-clause-usage : goal.returns-in-Err-clause-usage
 returns-in-Err-clause-usage g c =
-    λ other. subst (λ (n : ℕ). (n ≡ 2) ↔ SaysNoRun (texts c.args.words.now)) (sym c.report.ensures.status) (run_usage _ _ _ c.in-Err.refusal c.in-Err.ensures.refused (λ is. other (c.report.ensures.status ∙ is)))
+    λ other. subst (λ (n : ℕ). (n ≡ 2) ↔ SaysNoRun (texts c.args.words.now)) (sym c.report.ensures.status) (run_usage _ _ _ _ c.in-Err.refusal c.in-Err.ensures.refused (λ is. other (c.report.ensures.status ∙ is)))
 
 pub returns-in-Err-clause-out_failed : goal.returns-in-Err-clause-out_failed
 returns-in-Err-clause-out_failed g c =
@@ -19,4 +19,4 @@ returns-in-Err-clause-out_failed g c =
 
 pub returns-in-Err-clause-complete : goal.returns-in-Err-clause-complete
 returns-in-Err-clause-complete g c =
-    λ can files out. inr (c.report.ensures.status ∙ run_answered _ _ _ c.in-Err.refusal c.in-Err.ensures.refused (λ is. out (c.in-Err.ensures.out_failed is).cut.failed) can files)
+    λ can files out hold. inr (c.report.ensures.status ∙ run_answered _ _ _ _ c.in-Err.refusal c.in-Err.ensures.refused (λ is. out (c.in-Err.ensures.out_failed is).cut.failed) can files hold)

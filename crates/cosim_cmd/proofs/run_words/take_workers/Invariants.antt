@@ -1,4 +1,4 @@
-use Rattle.std.proofs.Common.{◌≡◌, ◌++◌, drop}
+use Rattle.std.proofs.Common.{◌≡◌, drop}
 use Rattle.cosim_cmd.specs.Sentence.{texts}
 use Rattle.cosim_cmd.specs.RunWords.{workers_and_rest, onto}
 use Rattle.cosim_cmd.proofs.run_words.take_workers.Given as goal

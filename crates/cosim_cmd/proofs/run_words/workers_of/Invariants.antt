@@ -1,4 +1,4 @@
-use Rattle.std.proofs.Common.{ℕ, ◌≤◌, ◌<◌}
+use Rattle.std.proofs.Common.{ℕ, ◌<◌}
 use Rattle.cosim_cmd.specs.RunWords.{IsWorkers}
 use Rattle.cosim_cmd.proofs.run_words.workers_of.Given as goal
 
