@@ -109,8 +109,9 @@ const LINE: [(Given, &str); 9] = [
 ];
 
 /// A frame of two descriptors, the second reported; completions that aren't awaited, or of another length.
-const TWO_PARTS: [(Given, &str); 12] = [
+const TWO_PARTS: [(Given, &str); 13] = [
     (Write(0x3818, 2), "done, read 0 0x1000 16"),
+    (Zeros(0, 15), ""),
     (Bytes(0, &TEN), "read 1 0x2000 10"),
     (Zeros(7, 10), ""),
     (Zeros(1, 9), ""),
@@ -283,6 +284,22 @@ const THREE_PARTS: [(Given, &str); 13] = [
     (Read(0xc0, 4), "is 80000000, low"),
 ];
 
+/// A frame waits while the ring has no length, or its head or tail is past its end; completions of 15 bytes, and of a read
+/// that isn't outstanding, in the place of the descriptor.
+const UNREADY: [(Given, &str); 11] = [
+    (Write(0x2808, 0), "done"),
+    (Write(0x2818, 1), "done"),
+    (Frames(OWN, 60, 1), ""),
+    (Write(0x2818, 8), "done"),
+    (Write(0x2808, 0x80), "done"),
+    (Write(0x2810, 8), "done"),
+    (Write(0x2818, 1), "done"),
+    (Write(0x2810, 0), "done, read 0 0x1000 16"),
+    (Zeros(0, 15), ""),
+    (Zeros(1, 16), ""),
+    (Bytes(0, &BUFFER), "write 1 0x4000 60"),
+];
+
 /// A reset while a part is written, its completion late; then a buffer of 16,384 bytes.
 const RESET_OF_RECEIVING: [(Given, &str); 12] = [
     (Write(0x100, 0x10002), "done"),
@@ -329,7 +346,7 @@ const FULL: [(Given, &str); 4] = [
 
 const OFF: [(Given, &str); 1] = [(Frames(OWN, 60, 1), "drop off")];
 
-pub(crate) const CASES: [Case; 15] = [
+pub(crate) const CASES: [Case; 16] = [
     Case {
         registers: &SENDS,
         steps: &RESETS,
@@ -373,6 +390,10 @@ pub(crate) const CASES: [Case; 15] = [
     Case {
         registers: &RECEIVES,
         steps: &THREE_PARTS,
+    },
+    Case {
+        registers: &RECEIVES,
+        steps: &UNREADY,
     },
     Case {
         registers: &RECEIVES,
