@@ -1,11 +1,13 @@
 ghost use Rattle.std.specs.Prelude.{◌≡◌, None};
 
-use crate::ends::{TcpIn, TcpOut, one_more};
-use cs_base::{DialBad, Dialer};
+use crate::ends::{Handed, TcpIn, TcpOut, one_more};
+use cs_base::{DialBad, Dialer, NoMemory};
 use std::alloc::Global;
 use std::io;
 use std::io::ErrorKind;
 use std::net::{Ipv4Addr, Net, TcpListener, TcpStream};
+use std::sync::Arc;
+use std::sync::atomic::AtomicU64;
 
 /// Makes one connection a channel, over the loopback address of this machine. No end of it waits.
 #[derive(Drop)]
@@ -21,6 +23,13 @@ impl<'a, R> TcpDialer<'a, R> {
     {
         TcpDialer { net, faults: 0 }
     }
+}
+
+/// A count for both ends of a connection.
+fn shared_count(alloc: Global) -> Result<(Handed, Handed), NoMemory> {
+    let handed = Arc::new(alloc, AtomicU64::new(0))?;
+    let same = Arc::try_clone(&handed)?;
+    Ok((handed, same))
 }
 
 /// A connection of this process with itself: the end that sends, and the one that receives.
@@ -50,9 +59,10 @@ impl<R: Net<Listener = TcpListener, Stream = TcpStream>> Dialer for TcpDialer<'_
         self.faults
     }
 
-    fn dial(&mut self, _alloc: Global, _channel: u32) -> Result<(TcpOut, TcpIn), DialBad> {
+    fn dial(&mut self, alloc: Global, _channel: u32) -> Result<(TcpOut, TcpIn), DialBad> {
+        let (handed, same) = shared_count(alloc)?;
         match connect(self.net) {
-            Ok((out, wire)) => Ok((TcpOut::new(out), TcpIn::new(wire))),
+            Ok((out, wire)) => Ok((TcpOut::new(out, handed), TcpIn::new(wire, same))),
             Err(_) => {
                 self.faults = one_more(self.faults);
                 Err(DialBad::Failed)

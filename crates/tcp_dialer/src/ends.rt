@@ -3,8 +3,17 @@ ghost use Rattle.cs_base.specs.Outside.{one_more};
 
 use cs_base::no_memory::Failed;
 use cs_base::wires::{Got, Sent, WireIn, WireOut};
+use std::alloc::Global;
 use std::io::{ErrorKind, Read, Write};
 use std::net::TcpStream;
+use std::sync::Arc;
+use std::sync::atomic::{AtomicU64, Ordering};
+
+/// How many bytes the sending end has handed to its connection, modulo 2^64.
+pub(crate) type Handed = Arc<AtomicU64, Global>;
+
+/// Where nothing was handed over, the receiving end asks its connection at each so many calls alone, whether it has ended.
+const ASKS_EACH: u64 = 64;
 
 /// One more, but never past the last value of a counter.
 pub(crate) fn one_more(count: u64) -> u64
@@ -22,17 +31,19 @@ fn is_pause(kind: ErrorKind) -> bool {
 #[derive(Drop)]
 pub struct TcpOut {
     stream: TcpStream,
+    handed: Handed,
     faults: u64,
     idles: u64,
 }
 
 impl TcpOut {
-    pub(crate) fn new(stream: TcpStream) -> TcpOut
+    pub(crate) fn new(stream: TcpStream, handed: Handed) -> TcpOut
         ensures faults { result.faults ≡ 0 }
         ensures idles { result.idles ≡ 0 }
     {
         TcpOut {
             stream,
+            handed,
             faults: 0,
             idles: 0,
         }
@@ -52,7 +63,10 @@ impl WireOut for TcpOut {
 
     fn send(&mut self, bytes: &[u8]) -> Result<Sent, Failed> {
         match self.stream.write(bytes) {
-            Ok(count) if count > 0 => return Ok(Sent::Took(count)),
+            Ok(count) if count > 0 => {
+                self.handed.fetch_add(count as u64, Ordering::SeqCst);
+                return Ok(Sent::Took(count));
+            }
             Err(error) if is_pause(error.kind()) => {
                 self.idles = one_more(self.idles);
                 return Ok(Sent::NotYet);
@@ -64,27 +78,37 @@ impl WireOut for TcpOut {
     }
 }
 
-/// The receiving end of a connection.
+/// The receiving end of a connection. It knows how much the sending end has handed over, so that it seldom asks where nothing
+/// can come.
 #[derive(Drop)]
 pub struct TcpIn {
     stream: TcpStream,
+    handed: Handed,
+    taken: u64,
     faults: u64,
     idles: u64,
     ended: bool,
 }
 
 impl TcpIn {
-    pub(crate) fn new(stream: TcpStream) -> TcpIn
+    pub(crate) fn new(stream: TcpStream, handed: Handed) -> TcpIn
         ensures faults { result.faults ≡ 0 }
         ensures idles { result.idles ≡ 0 }
         ensures ended { result.ended ≡ false }
     {
         TcpIn {
             stream,
+            handed,
+            taken: 0,
             faults: 0,
             idles: 0,
             ended: false,
         }
+    }
+
+    /// Whether the connection needn't be asked: all that was handed to it was taken out.
+    fn is_empty(&self) -> bool {
+        self.taken == self.handed.load(Ordering::SeqCst) && self.idles % ASKS_EACH != 0
     }
 }
 
@@ -107,12 +131,19 @@ impl WireIn for TcpIn {
         if self.ended {
             return Ok(Got::End);
         }
+        if self.is_empty() {
+            self.idles = one_more(self.idles);
+            return Ok(Got::NotYet);
+        }
         match self.stream.read(buffer) {
             Ok(0) => {
                 self.ended = true;
                 return Ok(Got::End);
             }
-            Ok(count) => return Ok(Got::Took(count)),
+            Ok(count) => {
+                self.taken = self.taken.wrapping_add(count as u64);
+                return Ok(Got::Took(count));
+            }
             Err(error) if is_pause(error.kind()) => {
                 self.idles = one_more(self.idles);
                 return Ok(Got::NotYet);
