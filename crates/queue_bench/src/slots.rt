@@ -127,7 +127,8 @@ fn across<R: Threads + Wait + Sync>(
     consumer: Consumer,
     count: u32,
 ) -> u64
-    requires { (producer.queue ≡ queue.now.name) × (consumer.queue ≡ queue.now.name) × IsRising producer.kind producer.sent 1 }
+    requires { (producer.queue ≡ queue.now.name) × (consumer.queue ≡ queue.now.name) ×
+        IsRising producer.kind producer.sent 1 }
 {
     let (_, received) = thread::join(
         rt,
