@@ -8,6 +8,7 @@ use crate::worker::Worker;
 use cs_base::Gate;
 use std::alloc::Global;
 use std::sync::Wait;
+use std::sync::atomic::AtomicBool;
 use std::thread;
 use std::thread::Threads;
 
@@ -32,14 +33,20 @@ fn quiet_rounds(workers: usize, threads: usize) -> u32 {
     if workers <= threads { ALONE } else { SHARED }
 }
 
-fn work_one<M: Member, G: Gate>(worker: &mut Worker<M>, alloc: Global, gate: &G, quiet_rounds: u32)
+fn work_one<M: Member, G: Gate>(
+    worker: &mut Worker<M>,
+    alloc: Global,
+    gate: &G,
+    quiet_rounds: u32,
+    faulted: &AtomicBool,
+)
     requires { IsSound M.fits worker.old }
     ensures { Worked M.does M.fails M.fits worker.old worker.new }
 {
-    worker.work(alloc, gate, quiet_rounds);
+    worker.work(alloc, gate, quiet_rounds, faulted);
 }
 
-/// Each worker makes rounds, on threads where they can be had.
+/// Each worker makes rounds, on threads where they can be had. A fault ends the rounds of all.
 fn work_all<R: Threads + Sync, M: Member + Send, G: Gate + Sync>(
     rt: &R,
     alloc: Global,
@@ -52,11 +59,12 @@ fn work_all<R: Threads + Sync, M: Member + Send, G: Gate + Sync>(
     ensures { AllWorked M.does M.fails M.fits workers.old workers.new }
 {
     let quiet_rounds = quiet_rounds(workers.len(), threads);
+    let faulted = AtomicBool::new(false);
     thread::for_each_mut(
         rt,
         workers,
         threads,
-        &|_, worker| work_one(worker, alloc, gate, quiet_rounds),
+        &|_, worker| work_one(worker, alloc, gate, quiet_rounds, &faulted),
     );
 }
 

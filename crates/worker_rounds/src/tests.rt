@@ -164,3 +164,32 @@ fn two_workers_run_at_once(rt: HostRuntime) -> Result<(), Fail> {
     assert_eq!(rt; meeting.missed.load(Ordering::SeqCst), 0);
     Ok(())
 }
+
+/// It lets the workers pass at their first round, and counts the later rounds of worker 0.
+#[derive(Drop)]
+struct Rounds {
+    made: AtomicU64,
+}
+
+impl Gate for Rounds {
+    fn pass(&self, worker: u32) {
+        if worker == 0 {
+            self.made.fetch_add(1, Ordering::SeqCst);
+        }
+    }
+}
+
+/// A worker that never ends nor moves shares the run with one that meets a fault.
+#[test]
+fn a_fault_ends_the_rounds_of_others(rt: HostRuntime) -> Result<(), Fail> {
+    let rounds = Rounds {
+        made: AtomicU64::new(0),
+    };
+    let mut all = Vec::new(rt.alloc());
+    all.push(worker(rt.alloc(), 0, u64::MAX, None)?)?;
+    all.push(worker(rt.alloc(), 1, 1000, Some(MeshBad::Lost { channel: 4 }))?)?;
+    let ended = run_all(&rt, rt.alloc(), all.as_mut_slice(), &rounds);
+    assert!(rt; ended == Err(MeshBad::Lost { channel: 4 }));
+    assert!(rt; rounds.made.load(Ordering::SeqCst) < 1 << 20);
+    Ok(())
+}

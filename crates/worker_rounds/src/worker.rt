@@ -9,6 +9,7 @@ use cs_base::Gate;
 use cs_base::no_memory::NoMemory;
 use std::alloc::Global;
 use std::marker::Model;
+use std::sync::atomic::{AtomicBool, Ordering};
 
 /// The most rounds that a worker makes within one for-each.
 const MOST_ROUNDS: u32 = 1 << 20;
@@ -117,8 +118,15 @@ impl<M: Member> Worker<M> {
         all_ended(self.members.as_slice())
     }
 
-    /// Makes rounds, until one meets a fault, or is quiet and all members have ended, or so many in a row are quiet.
-    pub(crate) fn work<G: Gate>(&mut self, alloc: Global, gate: &G, quiet_rounds: u32)
+    /// Makes rounds, until one meets a fault, which it tells the others, or is quiet and all members have ended, or so many in
+    /// a row are quiet, or another worker has met a fault.
+    pub(crate) fn work<G: Gate>(
+        &mut self,
+        alloc: Global,
+        gate: &G,
+        quiet_rounds: u32,
+        faulted: &AtomicBool,
+    )
         requires { IsSound M.fits self.old }
         ensures { Worked M.does M.fails M.fits self.old self.new }
     {
@@ -126,10 +134,15 @@ impl<M: Member> Worker<M> {
         for _ in 0..MOST_ROUNDS {
             let end = self.round(alloc, gate);
             if self.fault().is_some() {
+                faulted.store(true, Ordering::SeqCst);
                 return;
             }
             quiet = quiet_after(end, quiet);
             if quiet == quiet_rounds || (quiet > 0 && self.ended()) {
+                return;
+            }
+            let over = faulted.load(Ordering::SeqCst);
+            if over {
                 return;
             }
         }
