@@ -20,9 +20,6 @@ two_along kinds (link ∷ more) all = ap (λ v. (as_often v (queue_to kinds link
 pub new_by_queues : (kinds : List (List PortKind)) (links : List Link) (queues : List Named) (producers : List Sender) (consumers : List Receiver) → All (λ (link : Link). link.via ≡ ByQueue) links → AreAllNew kinds links queues producers consumers → AreNew kinds links queues producers consumers
 new_by_queues kinds links queues producers consumers all new = record { queues_are = new.queues_are ∙ two_along kinds links all; producers_are = new.sides.producers_are; consumers_are = new.sides.consumers_are }
 
-pub whole_by_queues : (kinds : List (List PortKind)) (links : List Link) (queues : List Named) (producers : List Sender) (consumers : List Receiver) → All (λ (link : Link). link.via ≡ ByQueue) links → AreNew kinds links queues producers consumers → AreAllNew kinds links queues producers consumers
-whole_by_queues kinds links queues producers consumers all new = record { queues_are = new.queues_are ∙ sym (two_along kinds links all); sides = record { producers_are = new.producers_are; consumers_are = new.consumers_are } }
-
 -- THE PLACES OF QUEUES
 
 -- how many queues are on a link by queue

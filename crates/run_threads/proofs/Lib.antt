@@ -1,4 +1,3 @@
-pub mod Built
 pub mod Doubled
 pub mod Faults
 pub mod Crews

@@ -294,7 +294,7 @@ impl<'q, V: Device, O: WireOut + Drop, I: WireIn + Drop> Ready<'q, V, O, I> {
 
 impl<'q, V: Device, O: WireOut + Drop, I: WireIn + Drop> Crew<'q, V, O, I> {
     /// The crew of devices at their start that are joined by a wiring: their components go to workers by number modulo the
-    /// number of workers, of which there are 1 to 64, and some may have none. The queues are those of `Queues::build_whole`
+    /// number of workers, of which there are 1 to 64, and some may have none. The queues are those of `Queues::build`
     /// for this wiring. Each channel that goes by proxy is dialed once, in order; its sending end goes to the worker of its
     /// sender, and its receiving end to that of its receiver. `Lost` comes only where the dialer's count of faults rose, and
     /// names the channel that was dialed last.

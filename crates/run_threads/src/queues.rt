@@ -1,8 +1,6 @@
 ghost use Rattle.std.specs.Prelude.{◌≡◌, ◌≤◌, ◌++◌, ◌∷◌, [], All, IfOk, OnOk};
 ghost use Rattle.cs_base.specs.Plan.{IsWithinLimits};
-ghost use Rattle.cs_base.specs.declared.link.Link.{Link};
-ghost use Rattle.cs_base.specs.declared.port_kind.Via.TheVariants.{Queue as ByQueue};
-ghost use Rattle.run_threads.specs.Queues.{AreNew, Added};
+ghost use Rattle.run_threads.specs.Queues.{Added};
 ghost use Rattle.run_threads.specs.Proxied.{AreAllNew, ChannelAdded};
 
 use cs_base::items::Items;
@@ -23,20 +21,10 @@ pub struct Queues {
 }
 
 impl Queues {
-    /// New queues for the channels of a wiring of which no link goes by proxy: each has as many slots as its link asks
-    /// for, and the kind of the port that receives from it.
-    pub fn build(alloc: Global, wiring: &Wiring) -> Result<Queues, NoMemory>
-        requires by_queues { All (λ (link : Link). link.via ≡ ByQueue) wiring.now.links }
-        ensures { IfOk result (λ made. AreNew wiring.now.kinds wiring.now.links
-            made.queues.items made.producers.items made.consumers.items) }
-    {
-        build_all(alloc, wiring.kinds.as_slice(), wiring.links.as_slice())
-    }
-
     /// New queues for the channels of a wiring, in the order of the channels: one for a channel by queue, and two, near then
     /// far, for one by proxy. Each has as many slots as its link asks for, and the kind of the port that receives from its
     /// channel.
-    pub fn build_whole(alloc: Global, wiring: &Wiring) -> Result<Queues, NoMemory>
+    pub fn build(alloc: Global, wiring: &Wiring) -> Result<Queues, NoMemory>
         ensures { IfOk result (λ made. AreAllNew wiring.now.kinds wiring.now.links
             made.queues.items made.producers.items made.consumers.items) }
     {
@@ -78,7 +66,7 @@ impl Queues {
     }
 }
 
-/// The queues of the two channels of each link, of which some may go by proxy.
+/// The queues of the two channels of each link.
 fn build_along(alloc: Global, kinds: &[Items<PortKind>], links: &[Link]) -> Result<Queues, NoMemory>
     requires { All IsWithinLimits links.now }
     ensures { IfOk result (λ made. AreAllNew kinds.now links.now
@@ -94,24 +82,6 @@ fn build_along(alloc: Global, kinds: &[Items<PortKind>], links: &[Link]) -> Resu
         made.add_channel(alloc, link.via, link.slots, kind)?;
         let kind = kind_of(kinds, link.a, link.a_port);
         made.add_channel(alloc, link.via, link.slots, kind)?;
-    }
-    Ok(made)
-}
-
-/// The queues of the two channels of each link.
-fn build_all(alloc: Global, kinds: &[Items<PortKind>], links: &[Link]) -> Result<Queues, NoMemory>
-    requires { All IsWithinLimits links.now }
-    ensures { IfOk result (λ made. AreNew kinds.now links.now
-        made.queues.items made.producers.items made.consumers.items) }
-{
-    let mut made = Queues {
-        queues: Vec::new(alloc),
-        producers: Vec::new(alloc),
-        consumers: Vec::new(alloc),
-    };
-    for link in links {
-        made.add(alloc, link.slots, kind_of(kinds, link.b, link.b_port))?;
-        made.add(alloc, link.slots, kind_of(kinds, link.a, link.a_port))?;
     }
     Ok(made)
 }

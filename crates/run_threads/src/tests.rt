@@ -79,7 +79,7 @@ where
     requires at_start { All (λ device. V.settled device 0) devices.items }
     requires workers { (1 ≤ workers) × (workers ≤ 64) }
 {
-    let made = Queues::build_whole(alloc, wiring)?;
+    let made = Queues::build(alloc, wiring)?;
     let Queues {
         queues,
         producers,
@@ -140,7 +140,7 @@ fn is_sent<T: Send>() {}
 #[test]
 fn each_channel_has_a_queue(rt: HostRuntime) -> Result<(), Fail> {
     let wiring = pair(rt.alloc(), 2, Via::Queue)?;
-    let made = Queues::build_whole(rt.alloc(), &wiring)?;
+    let made = Queues::build(rt.alloc(), &wiring)?;
     assert_eq!(rt; made.queues.len(), 2);
     assert_eq!(rt; made.producers.len(), 2);
     assert_eq!(rt; made.consumers.len(), 2);

@@ -116,7 +116,7 @@ where
 {
     sides_merge();
     what_was_pushed_was_popped();
-    let made = Queues::build_whole(alloc, wiring)?;
+    let made = Queues::build(alloc, wiring)?;
     let Queues {
         queues,
         producers,
