@@ -21,6 +21,3 @@ mod stop;
 pub use line::{Line, LineBad};
 pub use parse::parse_line;
 pub use statement::{Condition, Statement};
-
-#[cfg(test)]
-mod tests;

@@ -58,6 +58,3 @@ pub use time::Time;
 pub use wire_end::WireEnd;
 pub use wires::{Got, Sent, WireIn, WireOut};
 pub use wiring::Wiring;
-
-#[cfg(test)]
-mod tests;

@@ -16,6 +16,3 @@ mod tally;
 mod turn;
 
 pub use global_run::{Global, simulate};
-
-#[cfg(test)]
-mod tests;

@@ -11,6 +11,3 @@ pub mod way;
 
 pub use mesh::Mesh;
 pub use run_steps::Step;
-
-#[cfg(test)]
-mod tests;

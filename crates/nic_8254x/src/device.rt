@@ -106,6 +106,7 @@ impl Device for Nic {
         None
     }
 
+    /// It takes whatever comes in whatever state, so that this asks less than other devices do.
     fn take(
         &mut self,
         alloc: Global,
@@ -113,7 +114,9 @@ impl Device for Nic {
         port: u32,
         body: Body,
         out: &mut Effects,
-    ) -> Result<(), NoMemory> {
+    ) -> Result<(), NoMemory>
+        ensures { OnOk result (Gives (adapter.take self.old t port body) self.new out.old out.new) }
+    {
         self.take_body(alloc, t, port, body, out)
     }
 

@@ -13,8 +13,6 @@ mod receiving;
 mod sending;
 mod standing;
 mod state;
-#[cfg(test)]
-mod tests;
 
 pub use nic::Nic;
 pub use parts::NicParts;

@@ -28,6 +28,3 @@ pub use part::Part;
 pub use proxy_crew::BuildBad;
 pub use queues::Queues;
 pub use worker_rounds::{MeshBad, RoundEnd, Worker};
-
-#[cfg(test)]
-mod tests;

@@ -16,6 +16,3 @@ mod words;
 
 pub use assembler::assemble;
 pub use reason::{AsmBad, AsmReason};
-
-#[cfg(test)]
-mod tests;

@@ -13,8 +13,6 @@ mod parts;
 mod pending;
 mod state;
 mod steps;
-#[cfg(test)]
-mod tests;
 
 pub use act::Act;
 pub use parts::CoreParts;

@@ -23,8 +23,6 @@ mod reason;
 mod reason_text;
 mod seats;
 mod table;
-#[cfg(test)]
-mod tests;
 mod topology;
 mod type_laws;
 mod written;
