@@ -381,6 +381,33 @@ fn devices_reach_ram(rt: HostRuntime) {
     }
 }
 
+// Reads of 16 bytes by a device, of which the first begins one byte before RAM and the second ends one byte past it: they
+// are answered with zeros, and the line says at which address. The third is wholly in RAM.
+#[test]
+fn faults_name_their_addresses(rt: HostRuntime) {
+    let rows: [(u64, &[u8]); 3] = [
+        (0x7FFF_FFFF, b"dma fault 0x7fffffff"),
+        (0x8000_FFF1, b"dma fault 0x8000fff1"),
+        (0x8000_FFF0, b""),
+    ];
+    let mut host = started(rt.alloc(), &[0x1000_02B7], 1, 0).expect(&rt, "memory");
+    for (addr, line) in rows {
+        let mut out = Effects::new(rt.alloc());
+        let len = Length::new(16).expect(&rt, "a length");
+        let read = Body::Dev(DevMsg::Read { id: 9, addr, len });
+        host.take_body(rt.alloc(), Time(0), 0, read, &mut out)
+            .expect(&rt, "memory");
+        let is_zeros = match out.sends.as_slice() {
+            [(0, Body::Host(HostMsg::ReadDone { id: 9, bytes }))] => bytes.as_slice()
+                == [0; 16].as_slice(),
+            _ => false,
+        };
+        assert!(rt; is_zeros, "{addr}");
+        assert_eq!(rt; out.lines.len(), usize::from(!line.is_empty()), "{addr}");
+        assert!(rt; line.is_empty() || says(&out, 0, line), "{addr}");
+    }
+}
+
 // WFI waits until a level is high, and one of two levels is enough.
 #[test]
 fn sleeps_until_an_interrupt(rt: HostRuntime) {
