@@ -133,22 +133,9 @@ fn waits_for_the_external_interrupt(rt: HostRuntime) {
     assert_eq!(rt; core.csr(0x300), Some(0x1888));
 }
 
-#[test]
-fn parts_make_the_same_core(rt: HostRuntime) {
-    let waiting = CoreParts {
-        mstatus: 0x1888,
-        mie: 0x800,
-        pending: Pending::Load {
-            addr: 0x8000_1002,
-            size: 2,
-            rd: 31,
-            signed: true,
-        },
-        ..parts(1, 2)
-    };
-    let core = Core::from_parts(3, waiting).expect(&rt, "valid parts");
-    assert!(rt; core.into_parts() == waiting);
-    for wrong in [
+// Parts that make no core.
+fn wrong_parts() -> [CoreParts; 5] {
+    [
         CoreParts {
             pc: 2,
             ..parts(0, 0)
@@ -178,7 +165,25 @@ fn parts_make_the_same_core(rt: HostRuntime) {
             },
             ..parts(0, 0)
         },
-    ] {
+    ]
+}
+
+#[test]
+fn parts_make_the_same_core(rt: HostRuntime) {
+    let waiting = CoreParts {
+        mstatus: 0x1888,
+        mie: 0x800,
+        pending: Pending::Load {
+            addr: 0x8000_1002,
+            size: 2,
+            rd: 31,
+            signed: true,
+        },
+        ..parts(1, 2)
+    };
+    let core = Core::from_parts(3, waiting).expect(&rt, "valid parts");
+    assert!(rt; core.into_parts() == waiting);
+    for wrong in wrong_parts() {
         assert!(rt; Core::from_parts(0, wrong).is_none());
     }
 }

@@ -118,67 +118,73 @@ fn prints_and_halts(rt: HostRuntime) {
     assert!(rt; host.phase.due().is_none());
 }
 
+// The last byte of RAM.
+const LAST_BYTE: [u32; 7] = [
+    0x8001_02B7,
+    0x05A0_0313,
+    0xFE62_8FA3,
+    0xFFC2_A383,
+    0x0183_D393,
+    0x1000_0E37,
+    0x007E_2223,
+];
+
+// The ticks before two loads of the counter.
+const COUNTS: [u32; 6] = [
+    0x1000_02B7,
+    0x0082_A303,
+    0x0082_A383,
+    0x0083_9393,
+    0x0073_6333,
+    0x0062_A223,
+];
+
+// A halt where the console keeps a byte.
+const HALTS: [u32; 4] = [0x1000_02B7, 0x0410_0313, 0x0062_8023, 0x0002_A223];
+
+// An interrupt before the instruction at 0x8000_001C, which its handler at 0x8000_0024 halts with.
+const IS_INTERRUPTED: [u32; 12] = [
+    0x8000_02B7,
+    0x0242_8293,
+    0x3052_9073,
+    0x0000_1337,
+    0x8003_0313,
+    0x3043_1073,
+    0x3004_5073,
+    0xFFFF_F3B7,
+    0x0000_0013,
+    0x3410_2E73,
+    0x1000_0EB7,
+    0x01CE_A223,
+];
+
+// A WFI where an interrupt is there already.
+const IS_AWAKE: [u32; 6] = [
+    0x0000_1337,
+    0x8003_0313,
+    0x3043_1073,
+    0x1050_0073,
+    0x1000_02B7,
+    0x0002_A223,
+];
+
 // Programs of one PCIe port whose level is high or not, and the last two lines that they log.
+const PROGRAMS: [(bool, &[u32], &[u8], &[u8]); 5] = [
+    (false, &LAST_BYTE, b"", b"halt 90"),
+    (false, &COUNTS, b"", b"halt 513"),
+    (false, &HALTS, b"con A", b"halt 0"),
+    (
+        true,
+        &IS_INTERRUPTED,
+        b"trap 0x8000000b",
+        b"halt 2147483676",
+    ),
+    (true, &IS_AWAKE, b"", b"halt 0"),
+];
+
 #[test]
 fn runs_programs(rt: HostRuntime) {
-    // The last byte of RAM.
-    let last_byte = [
-        0x8001_02B7,
-        0x05A0_0313,
-        0xFE62_8FA3,
-        0xFFC2_A383,
-        0x0183_D393,
-        0x1000_0E37,
-        0x007E_2223,
-    ];
-    // The ticks before two loads of the counter.
-    let counts = [
-        0x1000_02B7,
-        0x0082_A303,
-        0x0082_A383,
-        0x0083_9393,
-        0x0073_6333,
-        0x0062_A223,
-    ];
-    // A halt where the console keeps a byte.
-    let halts = [0x1000_02B7, 0x0410_0313, 0x0062_8023, 0x0002_A223];
-    // An interrupt before the instruction at 0x8000_001C, which its handler at 0x8000_0024 halts with.
-    let is_interrupted = [
-        0x8000_02B7,
-        0x0242_8293,
-        0x3052_9073,
-        0x0000_1337,
-        0x8003_0313,
-        0x3043_1073,
-        0x3004_5073,
-        0xFFFF_F3B7,
-        0x0000_0013,
-        0x3410_2E73,
-        0x1000_0EB7,
-        0x01CE_A223,
-    ];
-    // A WFI where an interrupt is there already.
-    let is_awake = [
-        0x0000_1337,
-        0x8003_0313,
-        0x3043_1073,
-        0x1050_0073,
-        0x1000_02B7,
-        0x0002_A223,
-    ];
-    let rows: [(bool, &[u32], &[u8], &[u8]); 5] = [
-        (false, &last_byte, b"", b"halt 90"),
-        (false, &counts, b"", b"halt 513"),
-        (false, &halts, b"con A", b"halt 0"),
-        (
-            true,
-            &is_interrupted,
-            b"trap 0x8000000b",
-            b"halt 2147483676",
-        ),
-        (true, &is_awake, b"", b"halt 0"),
-    ];
-    for (high, program, first, last) in rows {
+    for (high, program, first, last) in PROGRAMS {
         let mut out = Effects::new(rt.alloc());
         let mut host = started(rt.alloc(), program, 1, 0).expect(&rt, "memory");
         let level = Body::Dev(DevMsg::Level { high });
@@ -381,6 +387,15 @@ fn devices_reach_ram(rt: HostRuntime) {
     }
 }
 
+// Whether read 9 was answered with 16 zeros, and with nothing else.
+fn answers_zeros(out: &Effects) -> bool {
+    let [(port, Body::Host(HostMsg::ReadDone { id, bytes }))] = out.sends.as_slice() else {
+        return false;
+    };
+    let (port, id) = (*port, *id);
+    port == 0 && id == 9 && bytes.as_slice() == [0; 16].as_slice()
+}
+
 // Reads of 16 bytes by a device, of which the first begins one byte before RAM and the second ends one byte past it: they
 // are answered with zeros, and the line says at which address. The third is wholly in RAM.
 #[test]
@@ -397,12 +412,7 @@ fn faults_name_their_addresses(rt: HostRuntime) {
         let read = Body::Dev(DevMsg::Read { id: 9, addr, len });
         host.take_body(rt.alloc(), Time(0), 0, read, &mut out)
             .expect(&rt, "memory");
-        let is_zeros = match out.sends.as_slice() {
-            [(0, Body::Host(HostMsg::ReadDone { id: 9, bytes }))] => bytes.as_slice()
-                == [0; 16].as_slice(),
-            _ => false,
-        };
-        assert!(rt; is_zeros, "{addr}");
+        assert!(rt; answers_zeros(&out), "{addr}");
         assert_eq!(rt; out.lines.len(), usize::from(!line.is_empty()), "{addr}");
         assert!(rt; line.is_empty() || says(&out, 0, line), "{addr}");
     }
@@ -481,62 +491,64 @@ fn parts_of(alloc: Global, case: &PartsCase) -> Option<HostParts> {
     })
 }
 
+const DUE: HostState = HostState::Due(Time(5));
+
+const PARTS_CASES: [PartsCase; 14] = [
+    in_state(DUE, false, true),
+    in_state(HostState::Due(Time(4)), false, false),
+    in_state(DUE, true, false),
+    in_state(HostState::Access { port: 1, id: 0 }, true, true),
+    in_state(HostState::Access { port: 0, id: 0 }, true, false),
+    in_state(HostState::Access { port: 1, id: 1 }, true, false),
+    in_state(HostState::Access { port: 1, id: 0 }, false, false),
+    in_state(HostState::Asleep, false, true),
+    in_state(HostState::Halted, false, true),
+    PartsCase {
+        state: DUE,
+        loads: false,
+        level: true,
+        line: false,
+        console: b"",
+        is_valid: false,
+    },
+    PartsCase {
+        state: HostState::Asleep,
+        loads: false,
+        level: true,
+        line: true,
+        console: b"",
+        is_valid: false,
+    },
+    PartsCase {
+        state: DUE,
+        loads: false,
+        level: true,
+        line: true,
+        console: b"ab",
+        is_valid: true,
+    },
+    PartsCase {
+        state: DUE,
+        loads: false,
+        level: false,
+        line: false,
+        console: b"a\n",
+        is_valid: false,
+    },
+    PartsCase {
+        state: HostState::Halted,
+        loads: false,
+        level: false,
+        line: false,
+        console: b"a",
+        is_valid: false,
+    },
+];
+
 #[test]
 fn parts_are_valid_where_all_fits(rt: HostRuntime) {
     let config = configured(rt.alloc(), LEAST, 1, 1).expect(&rt, "memory");
-    let due = HostState::Due(Time(5));
-    let cases = [
-        in_state(due, false, true),
-        in_state(HostState::Due(Time(4)), false, false),
-        in_state(due, true, false),
-        in_state(HostState::Access { port: 1, id: 0 }, true, true),
-        in_state(HostState::Access { port: 0, id: 0 }, true, false),
-        in_state(HostState::Access { port: 1, id: 1 }, true, false),
-        in_state(HostState::Access { port: 1, id: 0 }, false, false),
-        in_state(HostState::Asleep, false, true),
-        in_state(HostState::Halted, false, true),
-        PartsCase {
-            state: due,
-            loads: false,
-            level: true,
-            line: false,
-            console: b"",
-            is_valid: false,
-        },
-        PartsCase {
-            state: HostState::Asleep,
-            loads: false,
-            level: true,
-            line: true,
-            console: b"",
-            is_valid: false,
-        },
-        PartsCase {
-            state: due,
-            loads: false,
-            level: true,
-            line: true,
-            console: b"ab",
-            is_valid: true,
-        },
-        PartsCase {
-            state: due,
-            loads: false,
-            level: false,
-            line: false,
-            console: b"a\n",
-            is_valid: false,
-        },
-        PartsCase {
-            state: HostState::Halted,
-            loads: false,
-            level: false,
-            line: false,
-            console: b"a",
-            is_valid: false,
-        },
-    ];
-    for (place, case) in cases.iter().enumerate() {
+    for (place, case) in PARTS_CASES.iter().enumerate() {
         let parts = parts_of(rt.alloc(), case).expect(&rt, "memory");
         match Host::from_parts(&config, Time(5), parts) {
             Ok(host) => {

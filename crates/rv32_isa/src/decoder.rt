@@ -332,78 +332,79 @@ mod tests {
     use crate::encoder::encode;
 
     // Words as the GNU assembler writes them.
+    const KNOWN: [(u32, Instr); 12] = [
+        (
+            0x0220_C1B3,
+            Instr::Div {
+                rd: 3,
+                rs1: 1,
+                rs2: 2,
+            },
+        ),
+        (
+            0x0050_0093,
+            Instr::Addi {
+                rd: 1,
+                rs1: 0,
+                imm: 5,
+            },
+        ),
+        (
+            0xFFF0_0093,
+            Instr::Addi {
+                rd: 1,
+                rs1: 0,
+                imm: -1,
+            },
+        ),
+        (
+            0x8000_02B7,
+            Instr::Lui {
+                rd: 5,
+                imm: 0x8_0000,
+            },
+        ),
+        (0x0060_00EF, Instr::Jal { rd: 1, imm: 6 }),
+        (0xFFDF_F06F, Instr::Jal { rd: 0, imm: -4 }),
+        (
+            0xFE20_8EE3,
+            Instr::Beq {
+                rs1: 1,
+                rs2: 2,
+                imm: -4,
+            },
+        ),
+        (
+            0x0062_A223,
+            Instr::Sw {
+                rs1: 5,
+                rs2: 6,
+                imm: 4,
+            },
+        ),
+        (
+            0x41F1_5093,
+            Instr::Srai {
+                rd: 1,
+                rs1: 2,
+                imm: 31,
+            },
+        ),
+        (
+            0xF140_20F3,
+            Instr::Csrrs {
+                rd: 1,
+                rs1: 0,
+                csr: 0xF14,
+            },
+        ),
+        (0x0FF0_000F, Instr::Fence { bits: 0x0FF0_0000 }),
+        (0x3020_0073, Instr::Mret),
+    ];
+
     #[test]
     fn reads_and_writes_known_words(rt: HostRuntime) {
-        let known = [
-            (
-                0x0220_C1B3,
-                Instr::Div {
-                    rd: 3,
-                    rs1: 1,
-                    rs2: 2,
-                },
-            ),
-            (
-                0x0050_0093,
-                Instr::Addi {
-                    rd: 1,
-                    rs1: 0,
-                    imm: 5,
-                },
-            ),
-            (
-                0xFFF0_0093,
-                Instr::Addi {
-                    rd: 1,
-                    rs1: 0,
-                    imm: -1,
-                },
-            ),
-            (
-                0x8000_02B7,
-                Instr::Lui {
-                    rd: 5,
-                    imm: 0x8_0000,
-                },
-            ),
-            (0x0060_00EF, Instr::Jal { rd: 1, imm: 6 }),
-            (0xFFDF_F06F, Instr::Jal { rd: 0, imm: -4 }),
-            (
-                0xFE20_8EE3,
-                Instr::Beq {
-                    rs1: 1,
-                    rs2: 2,
-                    imm: -4,
-                },
-            ),
-            (
-                0x0062_A223,
-                Instr::Sw {
-                    rs1: 5,
-                    rs2: 6,
-                    imm: 4,
-                },
-            ),
-            (
-                0x41F1_5093,
-                Instr::Srai {
-                    rd: 1,
-                    rs1: 2,
-                    imm: 31,
-                },
-            ),
-            (
-                0xF140_20F3,
-                Instr::Csrrs {
-                    rd: 1,
-                    rs1: 0,
-                    csr: 0xF14,
-                },
-            ),
-            (0x0FF0_000F, Instr::Fence { bits: 0x0FF0_0000 }),
-            (0x3020_0073, Instr::Mret),
-        ];
-        for (word, instr) in known {
+        for (word, instr) in KNOWN {
             assert!(rt; decode(word) == instr, "{word}");
             assert_eq!(rt; encode(&instr), Some(word));
         }

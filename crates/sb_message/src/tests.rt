@@ -131,53 +131,55 @@ fn bytes_of_a_read(rt: HostRuntime) -> Result<(), Fail> {
     Ok(())
 }
 
+/// The kind of a port, what two bytes of a header are, and why it is no message.
+const REFUSALS: [(PortKind, [(usize, u8); 2], MsgBad); 10] = [
+    (
+        PortKind::Eth,
+        [(60, 1), (63, 0x80)],
+        MsgBad::ReservedNotZero,
+    ),
+    (PortKind::Eth, [(60, 1), (63, 0x00)], MsgBad::OwnerClear),
+    (PortKind::Eth, [(60, 1), (63, 0xd0)], MsgBad::TypeNotOfKind),
+    (
+        PortKind::MemHost,
+        [(16, 4), (63, 0xd0)],
+        MsgBad::TypeNotOfKind,
+    ),
+    (
+        PortKind::Eth,
+        [(0, 1), (63, 0x80)],
+        MsgBad::Upper(UpperBad::Sync),
+    ),
+    (
+        PortKind::Eth,
+        [(0, 2), (63, 0x81)],
+        MsgBad::Upper(UpperBad::Intro(IntroBad::Version)),
+    ),
+    (
+        PortKind::MemDev,
+        [(0, 1), (63, 0xd0)],
+        MsgBad::Upper(UpperBad::Mem(MemBad::LengthRange)),
+    ),
+    (
+        PortKind::PcieDev,
+        [(18, 1), (63, 0xe0)],
+        MsgBad::Upper(UpperBad::Pcie(PcieBad::BadBar)),
+    ),
+    (
+        PortKind::PcieHost,
+        [(0, 2), (63, 0xc2)],
+        MsgBad::Upper(UpperBad::Pcie(PcieBad::FieldNotZero)),
+    ),
+    (
+        PortKind::Eth,
+        [(0, 14), (63, 0xf0)],
+        MsgBad::Upper(UpperBad::Eth(EthBad::TooShort)),
+    ),
+];
+
 #[test]
 fn refusals(rt: HostRuntime) {
-    let rows = [
-        (
-            PortKind::Eth,
-            [(60, 1), (63, 0x80)],
-            MsgBad::ReservedNotZero,
-        ),
-        (PortKind::Eth, [(60, 1), (63, 0x00)], MsgBad::OwnerClear),
-        (PortKind::Eth, [(60, 1), (63, 0xd0)], MsgBad::TypeNotOfKind),
-        (
-            PortKind::MemHost,
-            [(16, 4), (63, 0xd0)],
-            MsgBad::TypeNotOfKind,
-        ),
-        (
-            PortKind::Eth,
-            [(0, 1), (63, 0x80)],
-            MsgBad::Upper(UpperBad::Sync),
-        ),
-        (
-            PortKind::Eth,
-            [(0, 2), (63, 0x81)],
-            MsgBad::Upper(UpperBad::Intro(IntroBad::Version)),
-        ),
-        (
-            PortKind::MemDev,
-            [(0, 1), (63, 0xd0)],
-            MsgBad::Upper(UpperBad::Mem(MemBad::LengthRange)),
-        ),
-        (
-            PortKind::PcieDev,
-            [(18, 1), (63, 0xe0)],
-            MsgBad::Upper(UpperBad::Pcie(PcieBad::BadBar)),
-        ),
-        (
-            PortKind::PcieHost,
-            [(0, 2), (63, 0xc2)],
-            MsgBad::Upper(UpperBad::Pcie(PcieBad::FieldNotZero)),
-        ),
-        (
-            PortKind::Eth,
-            [(0, 14), (63, 0xf0)],
-            MsgBad::Upper(UpperBad::Eth(EthBad::TooShort)),
-        ),
-    ];
-    for (kind, changes, bad) in rows {
+    for (kind, changes, bad) in REFUSALS {
         let bytes = header([changes[0], changes[1], (48, 1), (48, 1), (48, 1), (48, 1)]);
         assert_eq!(rt; decode(rt.alloc(), kind, &bytes).err(), Some(bad));
     }
