@@ -23,6 +23,3 @@ mod write;
 
 pub use local::cosim_local;
 pub use run_command::cosim_run;
-
-#[cfg(test)]
-mod tests;

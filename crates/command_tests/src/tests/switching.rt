@@ -1,5 +1,5 @@
 //! The joined log of networks of switches.
-use super::on_text;
+use super::{FILE, Row, check_rows};
 use std::test::Fail;
 
 /// Two stations send at once, and the third one hears after the end.
@@ -51,30 +51,25 @@ kind = "switch"
 ports = 0
 "#;
 
-/// A network and its joined log.
-#[derive(Clone, Copy)]
-struct Network {
-    topology: &'static str,
-    log: &'static str,
-}
-
-const NETWORKS: [Network; 2] = [
-    Network {
-        topology: NO_PORTS,
-        log: "",
+/// Networks and their joined logs.
+const NETWORKS: [Row; 2] = [
+    Row {
+        words: &["model", FILE],
+        text: &[NO_PORTS],
+        status: 0,
+        out: "",
+        err: "",
     },
-    Network {
-        topology: THREE_STATIONS,
-        log: "1000 x tx 60\n1000 y tx 60\n1500 s learn 02:00:00:00:00:0b 0\n1500 s flood\n1500 s learn 02:00:00:00:00:0a 2\n1500 s flood\n",
+    Row {
+        words: &["model", FILE],
+        text: &[THREE_STATIONS],
+        status: 0,
+        out: "1000 x tx 60\n1000 y tx 60\n1500 s learn 02:00:00:00:00:0b 0\n1500 s flood\n1500 s learn 02:00:00:00:00:0a 2\n1500 s flood\n",
+        err: "",
     },
 ];
 
 #[test]
 fn networks_have_their_joined_log(rt: HostRuntime) -> Result<(), Fail> {
-    for row in &NETWORKS {
-        let run = on_text(rt.alloc(), "model", row.topology.as_bytes())?;
-        assert_eq!(rt; run.status, 0);
-        assert_eq!(rt; run.out.as_slice(), row.log.as_bytes());
-    }
-    Ok(())
+    check_rows(&rt, rt.alloc(), &NETWORKS)
 }

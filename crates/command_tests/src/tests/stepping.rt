@@ -1,6 +1,5 @@
 //! Runs on local clocks, step by step.
-use super::{Answer, FILE, TWO_BEACONS, plain};
-use std::alloc::Global;
+use super::{FILE, TWO_BEACONS, joined, plain};
 use std::test::Fail;
 
 /// Keys of the topology and of its link, under which `serial` writes what `model` does.
@@ -15,19 +14,14 @@ const SERVED: [(&str, &str); 8] = [
     ("end = 2501", "via = \"proxy\"\ninterval = 500"),
 ];
 
-/// A command on the two beacons, with statistics.
-fn on_two_beacons(alloc: Global, command: &str, end: &str, key: &str) -> Result<Answer, Fail> {
-    let topology = format!(in alloc; "{end}{TWO_BEACONS}{key}\n")?;
-    plain(alloc, &[command, "--stats", FILE], topology.as_bytes())
-}
-
 #[test]
 fn steps_lead_to_the_global_run(rt: HostRuntime) -> Result<(), Fail> {
     for (end, key) in &SERVED {
-        let global = on_two_beacons(rt.alloc(), "model", end, key)?;
-        let serial = on_two_beacons(rt.alloc(), "serial", end, key)?;
-        assert_eq!(rt; serial.status, 0);
-        assert_eq!(rt; serial.out.as_slice(), global.out.as_slice());
+        let topology = joined(rt.alloc(), &[*end, TWO_BEACONS, *key, "\n"])?;
+        let text = topology.as_bytes();
+        let global = plain(rt.alloc(), &["model", "--stats", FILE], text)?;
+        let serial = plain(rt.alloc(), &["serial", "--stats", FILE], text)?;
+        serial.check(&rt, 0, global.out.as_slice(), "");
     }
     Ok(())
 }

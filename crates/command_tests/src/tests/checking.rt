@@ -1,5 +1,5 @@
 //! Topologies written out.
-use super::{TWO_BEACONS, on_text};
+use super::{TWO_BEACONS, joined, on_text};
 use std::str;
 use std::test::Fail;
 
@@ -23,14 +23,13 @@ latency = 1
 
 #[test]
 fn what_lacks_a_program_can_be_checked(rt: HostRuntime) -> Result<(), Fail> {
-    let topology = format!(in rt.alloc(); "end = 2600{TWO_BEACONS}{AND_MEMORY}")?;
+    let topology = joined(rt.alloc(), &["end = 2600", TWO_BEACONS, AND_MEMORY])?;
     let checked = on_text(rt.alloc(), "check", topology.as_bytes())?;
     assert_eq!(rt; checked.status, 0);
     let text = str::from_utf8(checked.out.as_slice())?;
     assert!(rt; text.contains("interval = 500"));
     assert!(rt; text.contains("slots = 64"));
     let run = on_text(rt.alloc(), "model", topology.as_bytes())?;
-    assert_eq!(rt; run.status, 3);
-    assert_eq!(rt; run.err.as_slice(), b"cosim: file x\n".as_slice());
+    run.check(&rt, 3, b"", "cosim: file x\n");
     Ok(())
 }

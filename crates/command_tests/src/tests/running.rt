@@ -1,11 +1,14 @@
 //! Runs on threads.
-use super::images::{HOST, file};
+use super::images::HOST;
 use super::switching::{NO_PORTS, THREE_STATIONS};
-use super::{Answer, FILE, FOUR_LINES, TWO_BEACONS, files, owned, plain, sink};
-use crate::cosim_run;
-use cs_base::{Gate, Items, MemFiles, MemSink, Octets, OpenGate, Queue};
+use super::{
+    Answer, FILE, FOUR_LINES, TWO_BEACONS, answered, files, joined, owned, plain, sink, two_files,
+};
+use cosim_cmd::cosim_run;
+use cs_base::{Gate, Items, MemFiles, MemSink, OpenGate, Queue};
 use pipe_wires::PipeDialer;
 use std::alloc::Global;
+use std::process::Abort;
 use std::sync::Wait;
 use std::sync::atomic::{AtomicU64, Ordering};
 use std::test::Fail;
@@ -47,48 +50,58 @@ pub(super) fn run_over<R: Threads + Wait + Sync, G: Gate + Sync>(
         gate,
     );
     Ok(Run {
-        answer: Answer {
-            status,
-            out: Octets::from_slice(alloc, out.written())?,
-            err: Octets::from_slice(alloc, err.written())?,
-        },
+        answer: answered(alloc, status, out, err)?,
         rests: rests.len(),
         ends: ends.len(),
     })
 }
 
+/// A run whose links go by queues, over sinks that take all.
 fn run_of<R: Threads + Wait + Sync, G: Gate + Sync>(
     rt: &R,
     alloc: Global,
     words: &[&str],
     files: &mut MemFiles,
-    out: &mut MemSink,
-    err: &mut MemSink,
     gate: &G,
 ) -> Result<Run, Fail> {
-    let mut dial = PipeDialer::new(alloc, Queue::new(alloc), Items::new(alloc));
-    run_over(rt, alloc, words, files, &mut dial, out, err, gate)
+    run_over(
+        rt,
+        alloc,
+        words,
+        files,
+        &mut PipeDialer::new(alloc, Queue::new(alloc), Items::new(alloc)),
+        &mut sink(alloc, 65_536, &[])?,
+        &mut sink(alloc, 65_536, &[])?,
+        gate,
+    )
 }
 
-/// A run on a topology text, over an output that takes all.
 fn run_on<R: Threads + Wait + Sync>(
     rt: &R,
     alloc: Global,
     words: &[&str],
     text: &[u8],
 ) -> Result<Run, Fail> {
-    run_of(
-        rt,
-        alloc,
-        words,
-        &mut files(alloc, text)?,
-        &mut sink(alloc, 65_536, &[])?,
-        &mut sink(alloc, 65_536, &[])?,
-        &OpenGate,
-    )
+    run_of(rt, alloc, words, &mut files(alloc, text)?, &OpenGate)
 }
 
 pub(super) const WORKERS: [&str; 4] = ["--workers=1", "--workers=2", "--workers=5", "--workers=64"];
+
+/// Runs on each number of workers write what `model` does, and leave so many queues.
+fn check_workers<R: Threads + Wait + Sync + Abort>(
+    rt: &R,
+    alloc: Global,
+    text: &[u8],
+    channels: usize,
+) -> Result<(), Fail> {
+    let global = plain(alloc, &["model", FILE, "--stats"], text)?;
+    for workers in &WORKERS {
+        let run = run_on(rt, alloc, &["run", *workers, "--stats", FILE], text)?;
+        run.answer.check(rt, 0, global.out.as_slice(), "");
+        assert_eq!(rt; (run.rests, run.ends), (channels, 0));
+    }
+    Ok(())
+}
 
 /// Keys of the two beacons' topology and of its link, under which `run` writes what `model` does.
 const SERVED: [(&str, &str); 5] = [
@@ -102,30 +115,19 @@ const SERVED: [(&str, &str); 5] = [
 #[test]
 fn workers_write_the_global_run(rt: HostRuntime) -> Result<(), Fail> {
     for (end, key) in &SERVED {
-        let topology = format!(in rt.alloc(); "{end}{TWO_BEACONS}{key}\n")?;
-        let text = topology.as_bytes();
-        let global = plain(rt.alloc(), &["model", FILE, "--stats"], text)?;
-        for workers in &WORKERS {
-            let run = run_on(&rt, rt.alloc(), &["run", FILE, "--stats", *workers], text)?;
-            assert_eq!(rt; run.answer.status, 0);
-            assert_eq!(rt; run.answer.out.as_slice(), global.out.as_slice());
-            assert_eq!(rt; (run.rests, run.ends), (2, 0));
-        }
+        let topology = joined(rt.alloc(), &[*end, TWO_BEACONS, *key, "\n"])?;
+        check_workers(&rt, rt.alloc(), topology.as_bytes(), 2)?;
     }
     Ok(())
 }
 
 #[test]
 fn every_run_writes_the_same(rt: HostRuntime) -> Result<(), Fail> {
-    let topology = format!(in rt.alloc(); "end = 2600{TWO_BEACONS}slots = 1\n")?;
+    let topology = joined(rt.alloc(), &["end = 2600", TWO_BEACONS, "slots = 1\n"])?;
     for _run in 0..50 {
-        let run = run_on(
-            &rt,
-            rt.alloc(),
-            &["run", "--workers", "2", FILE],
-            topology.as_bytes(),
-        )?;
-        assert_eq!(rt; run.answer.out.as_slice(), FOUR_LINES.as_bytes());
+        let words = ["run", "--workers", "2", FILE];
+        let run = run_on(&rt, rt.alloc(), &words, topology.as_bytes())?;
+        run.answer.check(&rt, 0, FOUR_LINES.as_bytes(), "");
     }
     Ok(())
 }
@@ -168,14 +170,7 @@ const NETWORKS: [(&str, usize); 3] = [(RING, 6), (THREE_STATIONS, 6), (NO_PORTS,
 #[test]
 fn networks_run_on_workers(rt: HostRuntime) -> Result<(), Fail> {
     for (topology, channels) in &NETWORKS {
-        let text = topology.as_bytes();
-        let global = plain(rt.alloc(), &["model", FILE, "--stats"], text)?;
-        for workers in &WORKERS {
-            let run = run_on(&rt, rt.alloc(), &["run", *workers, "--stats", FILE], text)?;
-            assert_eq!(rt; run.answer.status, 0);
-            assert_eq!(rt; run.answer.out.as_slice(), global.out.as_slice());
-            assert_eq!(rt; run.rests, *channels);
-        }
+        check_workers(&rt, rt.alloc(), topology.as_bytes(), *channels)?;
     }
     Ok(())
 }
@@ -213,8 +208,7 @@ const NO_SENTENCES: [&[&str]; 25] = [
 fn other_words_than_those_of_run_are_refused(rt: HostRuntime) -> Result<(), Fail> {
     for words in &NO_SENTENCES {
         let refused = run_on(&rt, rt.alloc(), words, b"")?;
-        assert_eq!(rt; refused.answer.status, 2);
-        assert_eq!(rt; refused.answer.err.as_slice(), b"cosim: usage\n".as_slice());
+        refused.answer.check(&rt, 2, b"", "cosim: usage\n");
     }
     Ok(())
 }
@@ -240,8 +234,7 @@ const NAMED: [(&[&str], &str); 7] = [
 fn sentences_of_run_name_their_file(rt: HostRuntime) -> Result<(), Fail> {
     for (words, line) in &NAMED {
         let unread = run_on(&rt, rt.alloc(), words, b"")?;
-        assert_eq!(rt; unread.answer.status, 3);
-        assert_eq!(rt; unread.answer.err.as_slice(), line.as_bytes());
+        unread.answer.check(&rt, 3, b"", line);
     }
     Ok(())
 }
@@ -249,29 +242,26 @@ fn sentences_of_run_name_their_file(rt: HostRuntime) -> Result<(), Fail> {
 #[test]
 fn a_failing_output_leaves_no_queues(rt: HostRuntime) -> Result<(), Fail> {
     let alloc = rt.alloc();
-    let topology = format!(in alloc; "end = 2600{TWO_BEACONS}")?;
-    let run = run_of(
+    let topology = joined(alloc, &["end = 2600", TWO_BEACONS])?;
+    let run = run_over(
         &rt,
         alloc,
         &["run", FILE, "--workers=2"],
         &mut files(alloc, topology.as_bytes())?,
+        &mut PipeDialer::new(alloc, Queue::new(alloc), Items::new(alloc)),
         &mut sink(alloc, 10, &[1])?,
         &mut sink(alloc, 100, &[0])?,
         &OpenGate,
     )?;
-    assert_eq!(rt; run.answer.status, 9);
-    assert_eq!(rt; run.answer.out.as_slice(), b"1000 a tx ".as_slice());
-    assert!(rt; run.answer.err.is_empty());
+    run.answer.check(&rt, 9, b"1000 a tx ", "");
     assert_eq!(rt; run.rests, 0);
     Ok(())
 }
 
 /// The files of a host and its program, of which one read fails.
 fn files_of_a_host(alloc: Global, read: u64) -> Result<MemFiles, Fail> {
-    let topology = format!(in alloc; "end = 1{HOST}")?;
-    let mut files = Items::new(alloc);
-    files.push(file(alloc, FILE, topology.as_bytes())?)?;
-    files.push(file(alloc, "p", b"")?)?;
+    let topology = joined(alloc, &["end = 1", HOST])?;
+    let files = two_files(alloc, topology.as_bytes(), "p", b"")?;
     let mut failing = Items::new(alloc);
     failing.push(read)?;
     Ok(MemFiles::new(alloc, files, failing))
@@ -288,18 +278,10 @@ const READS: [(u64, u8, &str, &str); 3] = [
 fn each_read_may_fail(rt: HostRuntime) -> Result<(), Fail> {
     let alloc = rt.alloc();
     for (read, status, said, written) in &READS {
-        let run = run_of(
-            &rt,
-            alloc,
-            &["run", FILE, "--workers=2"],
-            &mut files_of_a_host(alloc, *read)?,
-            &mut sink(alloc, 65_536, &[])?,
-            &mut sink(alloc, 65_536, &[])?,
-            &OpenGate,
-        )?;
-        assert_eq!(rt; run.answer.status, *status);
-        assert_eq!(rt; run.answer.err.as_slice(), said.as_bytes());
-        assert_eq!(rt; run.answer.out.as_slice(), written.as_bytes());
+        let mut files = files_of_a_host(alloc, *read)?;
+        let words = ["run", FILE, "--workers=2"];
+        let run = run_of(&rt, alloc, &words, &mut files, &OpenGate)?;
+        run.answer.check(&rt, *status, written.as_bytes(), said);
     }
     Ok(())
 }
@@ -330,21 +312,15 @@ impl Gate for Meeting {
 #[test]
 fn two_workers_run_at_once(rt: HostRuntime) -> Result<(), Fail> {
     let alloc = rt.alloc();
-    let topology = format!(in alloc; "end = 2600{TWO_BEACONS}")?;
+    let topology = joined(alloc, &["end = 2600", TWO_BEACONS])?;
+    let mut files = files(alloc, topology.as_bytes())?;
     let meeting = Meeting {
         passed: AtomicU64::new(0),
         missed: AtomicU64::new(0),
     };
-    let run = run_of(
-        &rt,
-        alloc,
-        &["run", FILE, "--workers=2"],
-        &mut files(alloc, topology.as_bytes())?,
-        &mut sink(alloc, 65_536, &[])?,
-        &mut sink(alloc, 65_536, &[])?,
-        &meeting,
-    )?;
-    assert_eq!(rt; run.answer.out.as_slice(), FOUR_LINES.as_bytes());
+    let words = ["run", FILE, "--workers=2"];
+    let run = run_of(&rt, alloc, &words, &mut files, &meeting)?;
+    run.answer.check(&rt, 0, FOUR_LINES.as_bytes(), "");
     assert_eq!(rt; meeting.missed.load(Ordering::SeqCst), 0);
     Ok(())
 }
