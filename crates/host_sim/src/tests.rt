@@ -491,64 +491,44 @@ fn parts_of(alloc: Global, case: &PartsCase) -> Option<HostParts> {
     })
 }
 
-const DUE: HostState = HostState::Due(Time(5));
-
-const PARTS_CASES: [PartsCase; 14] = [
-    in_state(DUE, false, true),
-    in_state(HostState::Due(Time(4)), false, false),
-    in_state(DUE, true, false),
-    in_state(HostState::Access { port: 1, id: 0 }, true, true),
-    in_state(HostState::Access { port: 0, id: 0 }, true, false),
-    in_state(HostState::Access { port: 1, id: 1 }, true, false),
-    in_state(HostState::Access { port: 1, id: 0 }, false, false),
-    in_state(HostState::Asleep, false, true),
-    in_state(HostState::Halted, false, true),
+const fn keeping(
+    state: HostState,
+    level: bool,
+    line: bool,
+    console: &'static [u8],
+    is_valid: bool,
+) -> PartsCase {
     PartsCase {
-        state: DUE,
+        state,
         loads: false,
-        level: true,
-        line: false,
-        console: b"",
-        is_valid: false,
-    },
-    PartsCase {
-        state: HostState::Asleep,
-        loads: false,
-        level: true,
-        line: true,
-        console: b"",
-        is_valid: false,
-    },
-    PartsCase {
-        state: DUE,
-        loads: false,
-        level: true,
-        line: true,
-        console: b"ab",
-        is_valid: true,
-    },
-    PartsCase {
-        state: DUE,
-        loads: false,
-        level: false,
-        line: false,
-        console: b"a\n",
-        is_valid: false,
-    },
-    PartsCase {
-        state: HostState::Halted,
-        loads: false,
-        level: false,
-        line: false,
-        console: b"a",
-        is_valid: false,
-    },
-];
+        level,
+        line,
+        console,
+        is_valid,
+    }
+}
 
 #[test]
 fn parts_are_valid_where_all_fits(rt: HostRuntime) {
     let config = configured(rt.alloc(), LEAST, 1, 1).expect(&rt, "memory");
-    for (place, case) in PARTS_CASES.iter().enumerate() {
+    let due = HostState::Due(Time(5));
+    let cases = [
+        in_state(due, false, true),
+        in_state(HostState::Due(Time(4)), false, false),
+        in_state(due, true, false),
+        in_state(HostState::Access { port: 1, id: 0 }, true, true),
+        in_state(HostState::Access { port: 0, id: 0 }, true, false),
+        in_state(HostState::Access { port: 1, id: 1 }, true, false),
+        in_state(HostState::Access { port: 1, id: 0 }, false, false),
+        in_state(HostState::Asleep, false, true),
+        in_state(HostState::Halted, false, true),
+        keeping(due, true, false, b"", false),
+        keeping(HostState::Asleep, true, true, b"", false),
+        keeping(due, true, true, b"ab", true),
+        keeping(due, false, false, b"a\n", false),
+        keeping(HostState::Halted, false, false, b"a", false),
+    ];
+    for (place, case) in cases.iter().enumerate() {
         let parts = parts_of(rt.alloc(), case).expect(&rt, "memory");
         match Host::from_parts(&config, Time(5), parts) {
             Ok(host) => {
