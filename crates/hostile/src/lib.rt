@@ -1,4 +1,4 @@
-//! Runs whose links go by proxy, over wires that fail, end and lie: tables of what the command answers.
+//! Whole commands over files, outputs, wires and programs that fail, end and lie: tables of what they answer.
 #![tactic(auto)]
 
 #[cfg(test)]

@@ -1,19 +1,55 @@
 //! Streams that end too early.
-use super::{ended, run_pair};
-use pipe_wires::PipePlan;
+use super::Run;
+use super::frames::{Streams, whole_streams};
+use super::twists::{Twist, given, run_twisted};
+use std::alloc::Global;
+use std::process::Abort;
+use std::sync::Wait;
 use std::test::Fail;
+use std::thread::Threads;
 
-/// Where the stream of channel 0 ends: within the introduction and at the next message, and near the end of the run.
-const ENDS: [(u64, u64); 2] = [(0, 70), (724, 732)];
+/// The length of channel 0's stream.
+const LENGTH: u64 = 732;
 
-#[test]
-fn a_stream_that_ends_is_told(rt: HostRuntime) -> Result<(), Fail> {
-    let alloc = rt.alloc();
-    for (first, past) in &ENDS {
-        for place in *first..*past {
-            let run = run_pair(&rt, alloc, ended(alloc, place), PipePlan::plain(alloc))?;
-            assert!(rt; run.breaks(6, "cosim: link lost 0\n", 2), "{place} {run:?}");
-        }
+/// The run is broken off, and all bytes came that were to come.
+fn is_lost(run: &Run, sent: &Streams, given: &Streams) -> bool {
+    run.breaks(6, "cosim: link lost 0\n", sent, given) && run.came() == given.first.as_slice()
+}
+
+/// The stream of channel 0 ends at each place from one up to another.
+fn check<R: Threads + Wait + Sync + Abort>(
+    rt: &R,
+    alloc: Global,
+    first: u64,
+    past: u64,
+) -> Result<(), Fail> {
+    let sent = whole_streams(alloc)?;
+    assert_eq!(rt; sent.first.len() as u64, LENGTH);
+    for place in first..past {
+        let end = Twist::Ends(place);
+        let run = run_twisted(rt, alloc, end, Twist::Plain)?;
+        let given = given(alloc, &sent, end, Twist::Plain)?;
+        assert!(rt; is_lost(&run, &sent, &given), "{place} {run:?}");
     }
     Ok(())
+}
+
+#[test]
+fn a_stream_that_ends_in_its_first_quarter_is_told(rt: HostRuntime) -> Result<(), Fail> {
+    check(&rt, rt.alloc(), 0, 183)
+}
+
+#[test]
+fn a_stream_that_ends_in_its_second_quarter_is_told(rt: HostRuntime) -> Result<(), Fail> {
+    check(&rt, rt.alloc(), 183, 366)
+}
+
+#[test]
+fn a_stream_that_ends_in_its_third_quarter_is_told(rt: HostRuntime) -> Result<(), Fail> {
+    check(&rt, rt.alloc(), 366, 549)
+}
+
+#[test]
+fn a_stream_that_ends_in_its_last_quarter_is_told(rt: HostRuntime) -> Result<(), Fail> {
+    check(&rt, rt.alloc(), 549, LENGTH)
 }

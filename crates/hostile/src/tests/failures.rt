@@ -1,33 +1,28 @@
 //! Wires that fail at one of their first calls.
-use super::run_pair;
+use super::frames::whole_streams;
+use super::{TWO_WORKERS, only, run_pair};
 use pipe_wires::PipePlan;
 use std::alloc::Global;
 use std::test::Fail;
 
-/// The channel, which send of its wire fails, and which receipt.
-const FAILING: [(usize, Option<u64>, Option<u64>); 12] = [
-    (0, Some(0), None),
-    (0, Some(1), None),
-    (0, Some(2), None),
-    (0, None, Some(0)),
-    (0, None, Some(1)),
-    (0, None, Some(2)),
-    (1, Some(0), None),
-    (1, Some(1), None),
-    (1, Some(2), None),
-    (1, None, Some(0)),
-    (1, None, Some(1)),
-    (1, None, Some(2)),
+/// The channel, whether its sends or its receipts fail, and what is said.
+const FAILING: [(usize, bool, &str); 4] = [
+    (0, true, "cosim: link lost 0\n"),
+    (0, false, "cosim: link lost 0\n"),
+    (1, true, "cosim: link lost 1\n"),
+    (1, false, "cosim: link lost 1\n"),
 ];
 
+/// The numbers of the calls of which one fails.
+const CALLS: [u64; 3] = [0, 1, 2];
+
 /// A pipe of which this send fails, or this receipt.
-fn failing(alloc: Global, send: Option<u64>, receipt: Option<u64>) -> Result<PipePlan, Fail> {
+fn failing(alloc: Global, sends: bool, call: u64) -> Result<PipePlan, Fail> {
     let mut plan = PipePlan::plain(alloc);
-    if let Some(call) = send {
-        plan.failed_sends.push(call)?;
-    }
-    if let Some(call) = receipt {
-        plan.failed_receipts.push(call)?;
+    if sends {
+        plan.failed_sends = only(alloc, call)?;
+    } else {
+        plan.failed_receipts = only(alloc, call)?;
     }
     Ok(plan)
 }
@@ -35,15 +30,21 @@ fn failing(alloc: Global, send: Option<u64>, receipt: Option<u64>) -> Result<Pip
 #[test]
 fn a_wire_that_fails_is_told(rt: HostRuntime) -> Result<(), Fail> {
     let alloc = rt.alloc();
-    for (channel, send, receipt) in &FAILING {
-        let plan = failing(alloc, *send, *receipt)?;
-        let plain = PipePlan::plain(alloc);
-        let (run, line) = if *channel == 0 {
-            (run_pair(&rt, alloc, plan, plain)?, "cosim: link lost 0\n")
-        } else {
-            (run_pair(&rt, alloc, plain, plan)?, "cosim: link lost 1\n")
-        };
-        assert!(rt; run.breaks(6, line, 2), "{run:?}");
+    let sent = whole_streams(alloc)?;
+    for (channel, sends, line) in &FAILING {
+        for call in &CALLS {
+            for workers in &["--workers=1", TWO_WORKERS] {
+                let plan = failing(alloc, *sends, *call)?;
+                let plain = PipePlan::plain(alloc);
+                let (first, second) = if *channel == 0 {
+                    (plan, plain)
+                } else {
+                    (plain, plan)
+                };
+                let run = run_pair(&rt, alloc, workers, first, second)?;
+                assert!(rt; run.breaks(6, line, &sent, &sent), "{call} {run:?}");
+            }
+        }
     }
     Ok(())
 }
