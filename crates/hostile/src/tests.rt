@@ -158,6 +158,15 @@ impl Run {
         })
     }
 
+    /// Notes which channels were dialed, and how many dials failed.
+    fn note_dials<D: Dialer>(&mut self, dials: &Dials<D>) -> Result<(), Fail> {
+        for channel in dials.dialed() {
+            self.dialed.push(*channel)?;
+        }
+        self.failed_dials = dials.faults();
+        Ok(())
+    }
+
     /// It has this status and says this line. It asked for these files, wrote nothing, and leaves no queue.
     fn refuses(&self, status: u8, line: &str, asked: &str) -> bool {
         self.status == status
@@ -257,12 +266,9 @@ where
         &OpenGate,
     );
     let mut run = Run::local(alloc, status, &outside)?;
-    for channel in dials.dialed() {
-        run.dialed.push(*channel)?;
-    }
-    run.failed_dials = dials.faults();
     run.rests = rests.len();
     run.ends = without_wires(alloc, ends)?;
+    run.note_dials(&dials)?;
     Ok(run)
 }
 

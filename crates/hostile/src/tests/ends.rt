@@ -35,21 +35,41 @@ fn check<R: Threads + Wait + Sync + Abort>(
 }
 
 #[test]
-fn a_stream_that_ends_in_its_first_quarter_is_told(rt: HostRuntime) -> Result<(), Fail> {
-    check(&rt, rt.alloc(), 0, 183)
+fn a_stream_that_ends_in_its_first_eighth_is_told(rt: HostRuntime) -> Result<(), Fail> {
+    check(&rt, rt.alloc(), 0, 92)
 }
 
 #[test]
-fn a_stream_that_ends_in_its_second_quarter_is_told(rt: HostRuntime) -> Result<(), Fail> {
-    check(&rt, rt.alloc(), 183, 366)
+fn a_stream_that_ends_in_its_second_eighth_is_told(rt: HostRuntime) -> Result<(), Fail> {
+    check(&rt, rt.alloc(), 92, 184)
 }
 
 #[test]
-fn a_stream_that_ends_in_its_third_quarter_is_told(rt: HostRuntime) -> Result<(), Fail> {
-    check(&rt, rt.alloc(), 366, 549)
+fn a_stream_that_ends_in_its_third_eighth_is_told(rt: HostRuntime) -> Result<(), Fail> {
+    check(&rt, rt.alloc(), 184, 276)
 }
 
 #[test]
-fn a_stream_that_ends_in_its_last_quarter_is_told(rt: HostRuntime) -> Result<(), Fail> {
-    check(&rt, rt.alloc(), 549, LENGTH)
+fn a_stream_that_ends_in_its_fourth_eighth_is_told(rt: HostRuntime) -> Result<(), Fail> {
+    check(&rt, rt.alloc(), 276, 368)
+}
+
+#[test]
+fn a_stream_that_ends_in_its_fifth_eighth_is_told(rt: HostRuntime) -> Result<(), Fail> {
+    check(&rt, rt.alloc(), 368, 460)
+}
+
+#[test]
+fn a_stream_that_ends_in_its_sixth_eighth_is_told(rt: HostRuntime) -> Result<(), Fail> {
+    check(&rt, rt.alloc(), 460, 552)
+}
+
+#[test]
+fn a_stream_that_ends_in_its_seventh_eighth_is_told(rt: HostRuntime) -> Result<(), Fail> {
+    check(&rt, rt.alloc(), 552, 644)
+}
+
+#[test]
+fn a_stream_that_ends_in_its_last_eighth_is_told(rt: HostRuntime) -> Result<(), Fail> {
+    check(&rt, rt.alloc(), 644, LENGTH)
 }

@@ -2,7 +2,10 @@
 use super::{ASKED, BEACONS, FILE, LOG, Outside, Run, TWO_WORKERS, local, only, pair, run_plain};
 use cs_base::MemSink;
 use std::alloc::Global;
+use std::process::Abort;
+use std::sync::Wait;
 use std::test::Fail;
+use std::thread::Threads;
 
 /// The number of the write that fails, and what was written before.
 const WRITES: [(u64, &str); 5] = [
@@ -33,21 +36,43 @@ fn is_cut(answer: &Run, written: &str, mute: bool) -> bool {
         && answer.rests == 0
 }
 
+/// Each command but `run` is cut where this write fails.
+fn check_local<R: Abort>(
+    rt: &R,
+    alloc: Global,
+    write: u64,
+    written: &str,
+    mute: bool,
+) -> Result<(), Fail> {
+    for command in ["model", "serial"] {
+        let outside = outside(alloc, BEACONS, write, mute)?;
+        let answer = local(alloc, &[command, FILE], outside)?;
+        assert!(rt; is_cut(&answer, written, mute), "{command} {answer:?}");
+    }
+    Ok(())
+}
+
+/// So is a run of the two beacons by proxy.
+fn check_run<R: Threads + Wait + Sync + Abort>(
+    rt: &R,
+    alloc: Global,
+    write: u64,
+    written: &str,
+    mute: bool,
+) -> Result<(), Fail> {
+    let outside = outside(alloc, pair(alloc)?.as_str(), write, mute)?;
+    let answer = run_plain(rt, alloc, &["run", FILE, TWO_WORKERS], outside)?;
+    assert!(rt; is_cut(&answer, written, mute), "{answer:?}");
+    assert_eq!(rt; answer.ends.len(), 2);
+    Ok(())
+}
+
 #[test]
 fn an_output_that_fails_has_the_beginning(rt: HostRuntime) -> Result<(), Fail> {
-    let alloc = rt.alloc();
-    let by_proxy = pair(alloc)?;
     for (write, written) in &WRITES {
         for mute in [false, true] {
-            for command in ["model", "serial"] {
-                let outside = outside(alloc, BEACONS, *write, mute)?;
-                let answer = local(alloc, &[command, FILE], outside)?;
-                assert!(rt; is_cut(&answer, written, mute), "{command} {answer:?}");
-            }
-            let outside = outside(alloc, by_proxy.as_str(), *write, mute)?;
-            let answer = run_plain(&rt, alloc, &["run", FILE, TWO_WORKERS], outside)?;
-            assert!(rt; is_cut(&answer, written, mute), "{answer:?}");
-            assert_eq!(rt; answer.ends.len(), 2);
+            check_local(&rt, rt.alloc(), *write, written, mute)?;
+            check_run(&rt, rt.alloc(), *write, written, mute)?;
         }
     }
     Ok(())
